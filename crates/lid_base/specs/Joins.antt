@@ -5,14 +5,14 @@ use Rattle.lid_base.specs.declared.line.Joined.{Joined}
 use Rattle.lid_base.specs.Lines.{goes_on, words_of, has_words}
 
 -- a logical line that has ended, or none where it has no word
-abbrev pub closed : ℕ → List (List ℕ) → List Line
-closed number words = filter has_words (record { number = number; words = words } ∷ [])
+abbrev pub closed_lines : ℕ → List (List ℕ) → List Line
+closed_lines number words = filter has_words (record { number = number; words = words } ∷ [])
 
 -- the lines that the physical lines give, where a line with this number and these words is open
 abbrev pub open_lines : ℕ → List (List ℕ) → List (ℕ × List ℕ) → List Line
-open_lines number words [] = closed number words
+open_lines number words [] = closed_lines number words
 open_lines number words (p ∷ ps) =
-    if goes_on p.1 then open_lines number (words ++ words_of p.1) ps else closed number (words ++ words_of p.1) ++ open_lines (p.0 + 1) [] ps
+    if goes_on p.1 then open_lines number (words ++ words_of p.1) ps else closed_lines number (words ++ words_of p.1) ++ open_lines (p.0 + 1) [] ps
 
 -- those that are done, and those that come of the physical lines
 abbrev pub all_lines : Joined → List (ℕ × List ℕ) → List Line

@@ -2,7 +2,7 @@
 
 ghost use Rattle.std.specs.Prelude.{◌≡◌, ℕ, ◌<◌, ◌≤◌, ◌⊎◌, List, [], ◌∷◌, ◌++◌, length, IfOk, OnOk, IfErr};
 ghost use Rattle.lid_base.specs.Lines.{logical_lines, line_fault, text_fault};
-ghost use Rattle.lid_base.specs.Joins.{closed, open_lines, all_lines};
+ghost use Rattle.lid_base.specs.Joins.{closed_lines, open_lines, all_lines};
 
 use crate::cut::{cut_line, goes_on, has_bad_byte, has_long_word, push_words};
 use crate::items::{Items, Name};
@@ -53,7 +53,7 @@ impl Joined {
 
     /// Ends the open line, and opens the next one.
     fn close(&mut self, alloc: Global, next: u32) -> Result<(), AllocError>
-        ensures done { OnOk result (self.new.done.items ≡ self.old.done.items ++ closed self.old.number self.old.words.items) }
+        ensures done { OnOk result (self.new.done.items ≡ self.old.done.items ++ closed_lines self.old.number self.old.words.items) }
         ensures number { OnOk result (self.new.number ≡ next) }
         ensures words { OnOk result (self.new.words.items ≡ []) }
     {

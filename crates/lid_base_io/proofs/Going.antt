@@ -3,7 +3,7 @@ use Rattle.std.proofs.Common.{◌≡◌, ◌⊎◌, ℕ, suc, ◌+◌, ◌-◌, 
 use Rattle.std.specs.Option.{IfSome}
 use Rattle.std.proofs.lemmas.List.{map_push, length_push}
 use Rattle.lid_base_io.specs.Transfer.{FetchedNext}
-use Rattle.lid_base_io.specs.Calls.{CameAs, pieces_in, places_from, fetch_places, fetch_from, fetches_of, Rise, AreFetches, IsFetching, IsFetchingPart, IsGoing}
+use Rattle.lid_base_io.specs.Calls.{CameAs, pieces_in, places_from, fetch_places, fetch_from, fetches_of, Rise, AreFetches, IsFetching, IsFetchingPart, FetchesSoFar}
 use Rattle.lid_base.specs.declared.outside.Fetch.{Fetch}
 use Rattle.lid_base.specs.Outside.{Came, one_fetch}
 use Rattle.lid_base_io.proofs.Came.{both_came, none_came, begins_with}
@@ -56,7 +56,7 @@ rise_next : (limit at n : ℕ) (later : List ℕ) → 0 < n → n ≤ 65536 → 
 rise_next limit at n [] some few h = tt
 rise_next limit at n (place ∷ later) some few h = (let least = h.0 in omega arith, let most = h.1 in omega arith, h.2, h.3)
 
-pub going_begins : (whole : Bool) (held : Option (List ℕ)) (name : List ℕ) (limit : ℕ) → IsGoing whole held name limit 0 []
+pub going_begins : (whole : Bool) (held : Option (List ℕ)) (name : List ℕ) (limit : ℕ) → FetchesSoFar whole held name limit 0 []
 going_begins whole held name limit = record {
   places = [];
   are = refl;
@@ -69,7 +69,7 @@ going_begins whole held name limit = record {
     by None = tt
     by (Some file) = (omega arith, refl)
 
-module _ (whole : Bool) (held : Option (List ℕ)) (name : List ℕ) (limit at : ℕ) (calls : List Fetch) (within : at ≤ limit) (so : IsGoing whole held name limit at calls) where
+module _ (whole : Bool) (held : Option (List ℕ)) (name : List ℕ) (limit at : ℕ) (calls : List Fetch) (within : at ≤ limit) (so : FetchesSoFar whole held name limit at calls) where
   more_are : calls ++ fetch_from name limit at ∷ [] ≡ map (fetch_from name limit) (so.places ++ at ∷ [])
   more_are = ap (λ (cs : List Fetch). cs ++ fetch_from name limit at ∷ []) so.are ∙ sym (map_push (fetch_from name limit) so.places at)
 
@@ -82,7 +82,7 @@ module _ (whole : Bool) (held : Option (List ℕ)) (name : List ℕ) (limit at :
   }
 
   -- a fetch gave some bytes
-  pub going_on : (n : ℕ) → 0 < n → n ≤ 65536 → (whole ≡ true → IfSome held (λ file. n ≡ min (min 65536 (limit + 1 - at)) (length file - at))) → IsGoing whole held name limit (at + n) (calls ++ fetch_from name limit at ∷ [])
+  pub going_on : (n : ℕ) → 0 < n → n ≤ 65536 → (whole ≡ true → IfSome held (λ file. n ≡ min (min 65536 (limit + 1 - at)) (length file - at))) → FetchesSoFar whole held name limit (at + n) (calls ++ fetch_from name limit at ∷ [])
   going_on n some few gives = record {
     places = so.places ++ at ∷ [];
     are = more_are;
@@ -136,7 +136,7 @@ module _ (whole : Bool) (held : Option (List ℕ)) (name : List ℕ) (limit at :
           (length (calls ++ fetch_from name limit at ∷ []), begins_with (calls ++ fetch_from name limit at ∷ []) (map (fetch_from name limit) next.0) (fetches_of name limit (length file)) whole_list)
 
 -- one byte more than the limit was fetched
-pub going_full : (whole : Bool) (held : Option (List ℕ)) (name : List ℕ) (limit at : ℕ) (calls : List Fetch) → limit < at → IsGoing whole held name limit at calls → IsFetching whole held name limit calls
+pub going_full : (whole : Bool) (held : Option (List ℕ)) (name : List ℕ) (limit at : ℕ) (calls : List Fetch) → limit < at → FetchesSoFar whole held name limit at calls → IsFetching whole held name limit calls
 going_full whole held name limit at calls past so = record {
   some = so.some (omega arith);
   named = record {
@@ -166,14 +166,14 @@ none_fetched whole held name limit = record {
     by (Some file) = (0, refl)
 
 -- what the shelf tells: before the first fetch
-pub begins_as : (whole : Bool) (held : Option (List ℕ)) (name : List ℕ) (limit : ℕ) (old : Option (List Fetch)) → CameAs old old (IsGoing whole held name limit 0)
+pub begins_as : (whole : Bool) (held : Option (List ℕ)) (name : List ℕ) (limit : ℕ) (old : Option (List Fetch)) → CameAs old old (FetchesSoFar whole held name limit 0)
 begins_as whole held name limit old = ([], none_came old, going_begins whole held name limit)
 
 pub none_as : (whole : Bool) (held : Option (List ℕ)) (name : List ℕ) (limit : ℕ) (old : Option (List Fetch)) → CameAs old old (IsFetchingPart whole held name limit)
 none_as whole held name limit old = ([], none_came old, none_fetched whole held name limit)
 
 -- after a fetch that comes after these bytes
-module _ (whole : Bool) (held : Option (List ℕ)) (name : List ℕ) (limit room : ℕ) (bytes : List ℕ) (old now new : Option (List Fetch)) (within : length bytes ≤ limit) (is : room ≡ min 65536 (limit + 1 - length bytes)) (so : CameAs old now (IsGoing whole held name limit (length bytes))) (came : Came now new (one_fetch name (length bytes) room)) where
+module _ (whole : Bool) (held : Option (List ℕ)) (name : List ℕ) (limit room : ℕ) (bytes : List ℕ) (old now new : Option (List Fetch)) (within : length bytes ≤ limit) (is : room ≡ min 65536 (limit + 1 - length bytes)) (so : CameAs old now (FetchesSoFar whole held name limit (length bytes))) (came : Came now new (one_fetch name (length bytes) room)) where
   came_too : Came old new (so.0 ++ fetch_from name limit (length bytes) ∷ [])
   came_too = both_came old now new so.0 (fetch_from name limit (length bytes) ∷ []) so.1 (subst (λ (k : ℕ). Came now new (one_fetch name (length bytes) k)) is came)
 
@@ -183,11 +183,11 @@ module _ (whole : Bool) (held : Option (List ℕ)) (name : List ℕ) (limit room
   gives : (more : List ℕ) (n : ℕ) → length more ≡ length bytes + n → FetchedNext whole held bytes more room → whole ≡ true → IfSome held (λ file. n ≡ min (min 65536 (limit + 1 - length bytes)) (length file - length bytes))
   gives more n size next w = subst (λ (k : ℕ). IfSome held (λ file. n ≡ min k (length file - length bytes))) is (given whole held bytes more room n size next w)
 
-  pub goes_on_as : (more : List ℕ) (n : ℕ) → 0 < n → n ≤ room → length more ≡ length bytes + n → FetchedNext whole held bytes more room → CameAs old new (IsGoing whole held name limit (length more))
+  pub goes_on_as : (more : List ℕ) (n : ℕ) → 0 < n → n ≤ room → length more ≡ length bytes + n → FetchedNext whole held bytes more room → CameAs old new (FetchesSoFar whole held name limit (length more))
   goes_on_as more n some few size next = (
     so.0 ++ fetch_from name limit (length bytes) ∷ [],
     came_too,
-    subst (λ (at : ℕ). IsGoing whole held name limit at (so.0 ++ fetch_from name limit (length bytes) ∷ [])) (sym size)
+    subst (λ (at : ℕ). FetchesSoFar whole held name limit at (so.0 ++ fetch_from name limit (length bytes) ∷ [])) (sym size)
         (going_on whole held name limit (length bytes) so.0 within so.2 n some (omega arith) (gives more n size next)),
   )
 
@@ -195,11 +195,11 @@ module _ (whole : Bool) (held : Option (List ℕ)) (name : List ℕ) (limit room
   ended_as more size next =
       (so.0 ++ fetch_from name limit (length bytes) ∷ [], came_too, going_ended whole held name limit (length bytes) so.0 within so.2 (gives more 0 size next))
 
-pub full_as : (whole : Bool) (held : Option (List ℕ)) (name : List ℕ) (limit at : ℕ) (old now : Option (List Fetch)) → limit < at → CameAs old now (IsGoing whole held name limit at) → CameAs old now (IsFetching whole held name limit)
+pub full_as : (whole : Bool) (held : Option (List ℕ)) (name : List ℕ) (limit at : ℕ) (old now : Option (List Fetch)) → limit < at → CameAs old now (FetchesSoFar whole held name limit at) → CameAs old now (IsFetching whole held name limit)
 full_as whole held name limit at old now past so = (so.0, so.1, going_full whole held name limit at so.0 past so.2)
 
 -- what was fetched so far is some first of it
-pub part_of_going : (whole : Bool) (held : Option (List ℕ)) (name : List ℕ) (limit at : ℕ) (calls : List Fetch) → IsGoing whole held name limit at calls → IsFetchingPart whole held name limit calls
+pub part_of_going : (whole : Bool) (held : Option (List ℕ)) (name : List ℕ) (limit at : ℕ) (calls : List Fetch) → FetchesSoFar whole held name limit at calls → IsFetchingPart whole held name limit calls
 part_of_going whole held name limit at calls so = record {
   named = record {
     places = so.places;

@@ -68,7 +68,7 @@ CameAs {A} old new Are = (calls : List A) × Came old new calls × Are calls
 
 -- before each fetch of a loop, where `at` bytes are there: the fetches so far, and what is said of them
 -- with those that are left
-pub record IsGoing (whole : Bool) (held : Option (List ℕ)) (name : List ℕ) (limit at : ℕ) (calls : List Fetch) : Type 0 where
+pub record FetchesSoFar (whole : Bool) (held : Option (List ℕ)) (name : List ℕ) (limit at : ℕ) (calls : List Fetch) : Type 0 where
   pub places : List ℕ
   pub are : calls ≡ map (fetch_from name limit) places
   pub rise : (later : List ℕ) → Rise limit at at later → Rise limit 0 0 (places ++ later)

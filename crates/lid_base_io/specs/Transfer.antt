@@ -3,7 +3,7 @@ use Rattle.std.specs.Prelude.{◌≡◌, ℕ, ◌+◌, ◌-◌, ◌*◌, ◌/◌
 
 -- of a file of which some first bytes were fetched, `count` more came next; where there is room, there
 -- are none only at its end; and from a whole shelf they are as many as there is room for or as are left
-pub record IsNext (whole : Bool) (file old new : List ℕ) (room : ℕ) : Type 0 where
+pub record ComesNext (whole : Bool) (file old new : List ℕ) (room : ℕ) : Type 0 where
   pub count : ℕ
   pub bytes : new ≡ old ++ take count (drop (length old) file)
   pub size : length new ≡ length old + count
@@ -12,7 +12,7 @@ pub record IsNext (whole : Bool) (file old new : List ℕ) (room : ℕ) : Type 0
 
 -- where the file's bytes are told: some that come after those that were fetched came next
 abbrev pub FetchedNext : Bool → Option (List ℕ) → List ℕ → List ℕ → ℕ → Type 0
-FetchedNext whole held old new room = IfSome held (λ file. IsNext whole file old new room)
+FetchedNext whole held old new room = IfSome held (λ file. ComesNext whole file old new room)
 
 -- how many of n bytes make whole pieces of 65,536 bytes
 abbrev pub piece_bytes : ℕ → ℕ

@@ -14,7 +14,7 @@ use Rattle.lid_blif.specs.declared.context.Context.{Context}
 use Rattle.lid_base.specs.Words.{word_at}
 use Rattle.lid_blif.specs.Words.{keyword_of, is_line, same_keyword, inputs_of, leading, is_inner}
 use Rattle.lid_blif.specs.Designs.{IsNarrow}
-use Rattle.lid_blif.specs.Faults.{context_of, model_names, Case, told, outside, line_fault, first_fault}
+use Rattle.lid_blif.specs.Faults.{context_of, model_names, Case, told, no_model_case, line_fault, first_fault}
 use Rattle.lid_blif.specs.Designs.{models_of, model_of}
 use Rattle.lid_design.specs.WellFormed.{model_name}
 use Rattle.lid_blif.proofs.Contexts.{first_fault_pass, first_fault_here}
@@ -39,7 +39,7 @@ names_clear context names l h e =
     let clear = rw (← e) at h in
     let wide : List Case = (nat_lt 64 (inputs_of l.words), TooManyInputs l.number) ∷ [] in
     let short : List Case = (nat_lt (length l.words) 2, Arity l.number) ∷ wide in
-    let inside = told-none (outside context l.number) short clear in
+    let inside = told-none (no_model_case context l.number) short clear in
     let long = told-none (nat_lt (length l.words) 2, Arity l.number) wide inside.1 in
     let few = told-none (nat_lt 64 (inputs_of l.words), TooManyInputs l.number) [] long.1 in
     (ltb-false (length l.words) 2 long.0, ltb-false 64 (inputs_of l.words) few.0)

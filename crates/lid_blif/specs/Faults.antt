@@ -78,8 +78,8 @@ abbrev pub told : List Case → Option BlifFault
 told [] = None
 told (c ∷ cases) = if c.0 then Some c.1 else told cases
 
-abbrev pub outside : Context → ℕ → Case
-outside context number = (not context.inside, NoModel number)
+abbrev pub no_model_case : Context → ℕ → Case
+no_model_case context number = (not context.inside, NoModel number)
 
 abbrev pub model_cases : Context → List (List ℕ) → Line → List Case
 model_cases context names l =
@@ -90,14 +90,14 @@ model_cases context names l =
 
 abbrev pub names_cases : Context → Line → List Case
 names_cases context l =
-    outside context l.number
+    no_model_case context l.number
     ∷ (nat_lt (length l.words) 2, Arity l.number)
     ∷ (nat_lt 64 (inputs_of l.words), TooManyInputs l.number)
     ∷ []
 
 abbrev pub latch_cases : Context → Line → List Case
 latch_cases context l =
-    outside context l.number
+    no_model_case context l.number
     ∷ (nat_lt (length l.words) 3 || nat_lt 6 (length l.words), Arity l.number)
     ∷ (has_type l.words && not (is_latch_type (word_at l.words 3)), LatchType l.number)
     ∷ (has_init l.words && not (is_latch_init (last_word l.words)), LatchInit l.number)
@@ -105,7 +105,7 @@ latch_cases context l =
 
 abbrev pub subckt_cases : Context → Line → List Case
 subckt_cases context l =
-    outside context l.number
+    no_model_case context l.number
     ∷ (nat_lt (length l.words) 2, Arity l.number)
     ∷ (not (list_all is_binding (drop 2 l.words)), BindShape l.number)
     ∷ []
@@ -116,7 +116,7 @@ is_mixed context l = if ends_in_zero l then context.ones else context.zeros
 
 abbrev pub row_cases : Context → Line → List Case
 row_cases context l =
-    outside context l.number
+    no_model_case context l.number
     ∷ (not context.covered, RowOutside l.number)
     ∷ (not (is_row_of context.inputs l.words), RowShape l.number)
     ∷ (is_mixed context l, MixedRows l.number)
@@ -130,8 +130,8 @@ cases_of Names context names l = names_cases context l
 cases_of Latch context names l = latch_cases context l
 cases_of Subckt context names l = subckt_cases context l
 cases_of Row context names l = row_cases context l
-cases_of Unknown context names l = outside context l.number ∷ (true, Unsupported l.number) ∷ []
-cases_of _ context names l = outside context l.number ∷ []
+cases_of Unknown context names l = no_model_case context l.number ∷ (true, Unsupported l.number) ∷ []
+cases_of _ context names l = no_model_case context l.number ∷ []
 
 -- the fault of a line in a context, after models of these names
 unfoldable pub line_fault : Context → List (List ℕ) → Line → Option BlifFault

@@ -4,7 +4,7 @@ ghost use Rattle.std.specs.Prelude.{◌≡◌, ◌+◌, ◌<◌, ◌^◌, ◌⊎
 ghost use Rattle.std.specs.List.{list_any};
 ghost use Rattle.lid_base.specs.declared.line.Line.{Line};
 ghost use Rattle.lid_blif.specs.Names.{HoldsNames};
-ghost use Rattle.lid_blif.specs.Faults.{context_of, model_names, told, outside, model_cases, names_cases, latch_cases, subckt_cases, row_cases, is_mixed, line_fault, first_fault};
+ghost use Rattle.lid_blif.specs.Faults.{context_of, model_names, told, no_model_case, model_cases, names_cases, latch_cases, subckt_cases, row_cases, is_mixed, line_fault, first_fault};
 
 use crate::context::Context;
 use crate::fault::BlifFault;

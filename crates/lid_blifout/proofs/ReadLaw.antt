@@ -21,7 +21,7 @@ use Rattle.lid_blif.specs.declared.keyword.Keyword.TheVariants.{Model, Inputs, O
 use Rattle.lid_blif.specs.declared.context.Context.{Context}
 use Rattle.lid_base.specs.Words.{word_at, last_word}
 use Rattle.lid_blif.specs.Words.{keyword_of, same_keyword, is_line, is_inner, leading, inputs_of, is_row_of, is_latch_type, is_latch_init, has_type, has_init, is_equals, is_empty, is_binding}
-use Rattle.lid_blif.specs.Faults.{context_of, model_names, row_count, ends_in_zero, Case, outside, is_mixed, line_fault, first_fault}
+use Rattle.lid_blif.specs.Faults.{context_of, model_names, row_count, ends_in_zero, Case, no_model_case, is_mixed, line_fault, first_fault}
 use Rattle.lid_blif.specs.Designs.{cube_of, names_of, kind_named, control_named, kind_of, control_of, bind_of, inst_of, latch_cell, names_cell, cell_before, cells_of, insts_of, model_of, models_of}
 use Rattle.lid_design.specs.WellFormed.{IsWellFormedCell}
 use Rattle.lid_blif.proofs.Faults.{told-none, first_fault_none, same_as, names_clear}
@@ -58,7 +58,7 @@ latch_shape context names l h e =
     let clear = rw (← e) at h in
     let typed : List Case = (has_type l.words && not (is_latch_type (word_at l.words 3)), LatchType l.number) ∷ (has_init l.words && not (is_latch_init (last_word l.words)), LatchInit l.number) ∷ [] in
     let short : List Case = (nat_lt (length l.words) 3 || nat_lt 6 (length l.words), Arity l.number) ∷ typed in
-    let inside = told-none (outside context l.number) short clear in
+    let inside = told-none (no_model_case context l.number) short clear in
     let long = told-none (nat_lt (length l.words) 3 || nat_lt 6 (length l.words), Arity l.number) typed inside.1 in
     ltb-false (length l.words) 3 (or_left_false (nat_lt (length l.words) 3) (nat_lt 6 (length l.words)) long.0)
 
@@ -68,7 +68,7 @@ inst_shape context names l h e =
     let clear = rw (← e) at h in
     let bound : List Case = (not (list_all is_binding (drop 2 l.words)), BindShape l.number) ∷ [] in
     let short : List Case = (nat_lt (length l.words) 2, Arity l.number) ∷ bound in
-    let inside = told-none (outside context l.number) short clear in
+    let inside = told-none (no_model_case context l.number) short clear in
     let long = told-none (nat_lt (length l.words) 2, Arity l.number) bound inside.1 in
     let last = told-none (not (list_all is_binding (drop 2 l.words)), BindShape l.number) [] long.1 in
     (ltb-false (length l.words) 2 long.0, not-false (list_all is_binding (drop 2 l.words)) last.0)
@@ -276,7 +276,7 @@ row_limit context names l h e =
     let mixed : List Case = (is_mixed context l, MixedRows l.number) ∷ limit in
     let shape : List Case = (not (is_row_of context.inputs l.words), RowShape l.number) ∷ mixed in
     let covered : List Case = (not context.covered, RowOutside l.number) ∷ shape in
-    let a = told-none (outside context l.number) covered clear in
+    let a = told-none (no_model_case context l.number) covered clear in
     let b = told-none (not context.covered, RowOutside l.number) shape a.1 in
     let c = told-none (not (is_row_of context.inputs l.words), RowShape l.number) mixed b.1 in
     let d = told-none (is_mixed context l, MixedRows l.number) limit c.1 in

@@ -15,10 +15,10 @@ use Rattle.lid_station.proofs.PlainStations.{station_there, set_here, set_there}
 use Rattle.lid_board.specs.Closing.{CanRestore, IsRestored, Restored, number_at, closed_facts}
 use Rattle.lid_board.specs.Halves.{word_half}
 use Rattle.lid_board.specs.Owners.{IsOwned}
-use Rattle.lid_board.specs.Relation.{Kept, Related, word_count, first_word, cap_of, stream_of}
+use Rattle.lid_board.specs.Relation.{Kept, Related, word_count, first_word, capacity_of, stream_of}
 use Rattle.lid_board.specs.Standing.{AreStreamsOf}
 use Rattle.lid_board.specs.Ties.{IsTied, IsLaidTable}
-use Rattle.lid_board.specs.Views.{Ends, at, held}
+use Rattle.lid_board.specs.Views.{EndTable, at, held}
 use Rattle.lid_board.specs.declared.view.EndFacts.{EndFacts}
 use Rattle.lid_board.specs.declared.view.HandView.{HandView}
 use Rattle.lid_board.proofs.Frames.{apart}
@@ -110,7 +110,7 @@ facts_are cap passed mark h a b c =
     let C : Bool → Facts = λ x. record { cap = h.cap; start = 0; passed = h.passed; mark = x; misses = None } in
     ap A a ∙ ap B b ∙ ap C c
 
-module _ {S : Type 0} (plan : Ends) (caps firsts : List ℕ) (table : TableId) (laid : IsLaidTable plan caps firsts table) (st : State S HandView) (id : ℕ) (v : HandView) (r : Related plan st)
+module _ {S : Type 0} (plan : EndTable) (caps firsts : List ℕ) (table : TableId) (laid : IsLaidTable plan caps firsts table) (st : State S HandView) (id : ℕ) (v : HandView) (r : Related plan st)
     (here : get_elem? st.views id ≡ some v) (numbers : List (Option ℕ)) (tied : IsTied numbers v.ends) (all : (end : ℕ) → end < length plan → IsOwned v.ends end) (n : ℕ) (many : length plan ≡ 2 * n) where
   close_kept : (i : ℕ) → i < n → Kept st.words (first_word plan i) (held v.ends (fill i)) (held v.ends (drain i))
   close_kept i there =
@@ -120,7 +120,7 @@ module _ {S : Type 0} (plan : Ends) (caps firsts : List ℕ) (table : TableId) (
       subst (λ (y : EndFacts). Kept st.words (first_word plan i) y (held v.ends (drain i))) (sym f)
       (subst (λ (y : EndFacts). Kept st.words (first_word plan i) (r.truth (fill i)) y) (sym d) (r.kept i (omega arith)))
 
-  close_cap : (i : ℕ) → i < n → (held v.ends (fill i)).cap ≡ cap_of plan i
+  close_cap : (i : ℕ) → i < n → (held v.ends (fill i)).cap ≡ capacity_of plan i
   close_cap i there =
       let f : held v.ends (fill i) ≡ r.truth (fill i) = r.agree id v (fill i) (held v.ends (fill i)) here (all (fill i) (omega arith)) in
       ap (λ (y : EndFacts). y.cap) f ∙ (r.planned (fill i) (omega arith)).cap
@@ -136,7 +136,7 @@ module _ {S : Type 0} (plan : Ends) (caps firsts : List ℕ) (table : TableId) (
   close_first : (i : ℕ) → i < n → get_or firsts i 0 ≡ first_word plan i
   close_first i there = let ends = laid.ends in laid.starts i (omega arith)
 
-  pub close_can : (i : ℕ) (p : Pair) → i < n → length p.places.items ≡ cap_of plan i → CanRestore table.words (get_or firsts i 0) (number_at numbers (2 * i)) (number_at numbers (2 * i + 1)) p
+  pub close_can : (i : ℕ) (p : Pair) → i < n → length p.places.items ≡ capacity_of plan i → CanRestore table.words (get_or firsts i 0) (number_at numbers (2 * i)) (number_at numbers (2 * i + 1)) p
   close_can i p there size =
       let k = close_kept i there in
       let put = close_number (fill i) (omega arith) in
@@ -148,10 +148,10 @@ module _ {S : Type 0} (plan : Ends) (caps firsts : List ℕ) (table : TableId) (
       let gap = apart plan i (length caps) (omega arith) in
       let ordered = k.ordered in
       let room = k.room in
-      let wide : word_count (length p.places.items) ≡ word_count (cap_of plan i) = ap word_count size in
+      let wide : word_count (length p.places.items) ≡ word_count (capacity_of plan i) = ap word_count size in
       record { inside = omega arith; ordered = omega arith; room = omega arith }
 
-  close_restored : (words : List ℕ) → st.words ≡ words → (i : ℕ) (p q : Pair) → i < n → length p.places.items ≡ cap_of plan i
+  close_restored : (words : List ℕ) → st.words ≡ words → (i : ℕ) (p q : Pair) → i < n → length p.places.items ≡ capacity_of plan i
       → IsRestored words (get_or firsts i 0) (number_at numbers (2 * i)) (number_at numbers (2 * i + 1)) (length p.places.items) q
       → IsRestored st.words (first_word plan i) (held v.ends (fill i)).passed (held v.ends (drain i)).passed (held v.ends (fill i)).cap q
   close_restored words are i p q there size one =
@@ -169,7 +169,7 @@ module _ {S : Type 0} (plan : Ends) (caps firsts : List ℕ) (table : TableId) (
       }
 
   -- the plain stations stand for the streams
-  pub close_stands : (words : List ℕ) (old new : List Pair) → st.words ≡ words → length old ≡ n → ((i : ℕ) (p : Pair) → slice_get old i ≡ Some p → length p.places.items ≡ cap_of plan i)
+  pub close_stands : (words : List ℕ) (old new : List Pair) → st.words ≡ words → length old ≡ n → ((i : ℕ) (p : Pair) → slice_get old i ≡ Some p → length p.places.items ≡ capacity_of plan i)
       → Restored words firsts numbers old new (length old) → (streams : ℕ → List ℕ) → AreStreamsOf plan streams → PlainStands new streams
   close_stands words old new are same sizes done streams stands i q at =
       let within = slice_get_within new i q at in
@@ -180,7 +180,7 @@ module _ {S : Type 0} (plan : Ends) (caps firsts : List ℕ) (table : TableId) (
       subst (HoldsTokensOf q) (close_stream i there ∙ stands i (omega arith)) (restored_holds st.words (first_word plan i) (held v.ends (fill i)) (held v.ends (drain i)) q (close_kept i there) one)
 
   -- and they show the numbers at their ends
-  pub close_ends : (words : List ℕ) (old new : List Pair) → st.words ≡ words → length old ≡ n → ((i : ℕ) (p : Pair) → slice_get old i ≡ Some p → length p.places.items ≡ cap_of plan i)
+  pub close_ends : (words : List ℕ) (old new : List Pair) → st.words ≡ words → length old ≡ n → ((i : ℕ) (p : Pair) → slice_get old i ≡ Some p → length p.places.items ≡ capacity_of plan i)
       → Restored words firsts numbers old new (length old) → (end : ℕ) → end < length plan → plain_ends new end ≡ Some (closed_facts (held v.ends end))
   close_ends words old new are same sizes done end inside =
       let i = end / 2 in

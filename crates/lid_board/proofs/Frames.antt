@@ -7,8 +7,8 @@ use Rattle.std.proofs.lemmas.Option.{same_Some}
 use Rattle.atomic_table.specs.Table.{State}
 use Rattle.atomic_table.proofs.Lists.{at_set}
 use Rattle.lid_station.specs.Boards.{fill, drain}
-use Rattle.lid_board.specs.Relation.{AreWithin, Kept, Related, IsPlanned, word_count, first_word, cap_of, stream_of}
-use Rattle.lid_board.specs.Views.{Ends, at, held, one_of, has, changed, sure, IsEarly}
+use Rattle.lid_board.specs.Relation.{AreWithin, Kept, Related, IsPlanned, word_count, first_word, capacity_of, stream_of}
+use Rattle.lid_board.specs.Views.{EndTable, at, held, one_of, has, changed, sure, IsEarly}
 use Rattle.lid_board.specs.declared.view.EndFacts.{EndFacts}
 use Rattle.lid_board.specs.declared.view.HandView.{HandView}
 use Rattle.lid_board.proofs.Stations.{kept_frame}
@@ -47,19 +47,19 @@ sum_two f (x ∷ xs) (suc i) zero v w other e g = let same : f x ≡ f w = ap f 
 sum_two f (x ∷ xs) (suc i) (suc j) v w other e g = let h = sum_two f xs i j v w (λ q. other (ap suc q)) e g in let s = sum_by-cons f x xs in omega arith
 
 -- an end that is there is within the list
-pub at-within : (ends : Ends) (end : ℕ) (h : EndFacts) → at ends end ≡ Some h → end < length ends
+pub at-within : (ends : EndTable) (end : ℕ) (h : EndFacts) → at ends end ≡ Some h → end < length ends
 at-within [] end h e = absurd (cc)
 at-within (x ∷ xs) zero h e = omega arith
 at-within (x ∷ xs) (suc end) h e = let l = at-within xs end h e in omega arith
 
-pub at_changed : (ends : Ends) (end : ℕ) (h g : EndFacts) → at ends end ≡ Some h → at (changed ends end g) end ≡ Some g
+pub at_changed : (ends : EndTable) (end : ℕ) (h g : EndFacts) → at ends end ≡ Some h → at (changed ends end g) end ≡ Some g
 at_changed ends end h g e = get_or-set_same ends end (Some g) None (at-within ends end h e)
 
-pub at-other : (ends : Ends) (end k : ℕ) (g : EndFacts) → (k ≡ end → ⊥) → at (changed ends end g) k ≡ at ends k
+pub at-other : (ends : EndTable) (end k : ℕ) (g : EndFacts) → (k ≡ end → ⊥) → at (changed ends end g) k ≡ at ends k
 at-other ends end k g other = get_or-set_other ends end k (Some g) None other
 
 -- a change at an end gives and takes no end
-pub has_changed : (ends : Ends) (end k : ℕ) (h g : EndFacts) → at ends end ≡ Some h → one_of (at (changed ends end g) k) ≡ one_of (at ends k)
+pub has_changed : (ends : EndTable) (end k : ℕ) (h g : EndFacts) → at ends end ≡ Some h → one_of (at (changed ends end g) k) ≡ one_of (at ends k)
 has_changed ends end k h g e =
     dite (ℕ_discrete k end)
     (λ same.
@@ -76,13 +76,13 @@ swapped_here truth end h = rw (eq-eqb end end refl) refl
 pub swapped_else : (truth : ℕ → EndFacts) (end k : ℕ) (h : EndFacts) → (k ≡ end → ⊥) → swapped truth end h k ≡ truth k
 swapped_else truth end k h other = rw (ne_eqb k end other) refl
 
-module _ (plan : Ends) where
+module _ (plan : EndTable) where
   -- the words of two stations lie apart
-  pub apart : (one two : ℕ) → one < two → first_word plan one + word_count (cap_of plan one) ≤ first_word plan two
+  pub apart : (one two : ℕ) → one < two → first_word plan one + word_count (capacity_of plan one) ≤ first_word plan two
   apart one zero less = absurd (omega arith)
   apart one (suc two) less =
       dite (ℕ_discrete one two)
-      (λ last. let e : first_word plan one + word_count (cap_of plan one) ≡ first_word plan two + word_count (cap_of plan two) = ap (λ (n : ℕ). first_word plan n + word_count (cap_of plan n)) last in omega arith)
+      (λ last. let e : first_word plan one + word_count (capacity_of plan one) ≡ first_word plan two + word_count (capacity_of plan two) = ap (λ (n : ℕ). first_word plan n + word_count (capacity_of plan n)) last in omega arith)
       (λ earlier. let h = apart one two (omega arith) in omega arith)
 
   pub first-some : (station : ℕ) → 1 ≤ first_word plan station
@@ -90,7 +90,7 @@ module _ (plan : Ends) where
   first-some (suc station) = let h = first-some station in omega arith
 
   -- one word of one station changed; of another station all words are as they were
-  untouched : (words : List ℕ) (one two number k n : ℕ) → (one ≡ two → ⊥) → k < word_count (cap_of plan one) → number < word_count (cap_of plan two)
+  untouched : (words : List ℕ) (one two number k n : ℕ) → (one ≡ two → ⊥) → k < word_count (capacity_of plan one) → number < word_count (capacity_of plan two)
       → get_or (set words (first_word plan one + k) n) (first_word plan two + number) 0 ≡ get_or words (first_word plan two + number) 0
   untouched words one two number k n other inside below =
       get_or-set_other words (first_word plan one + k) (first_word plan two + number) n 0
@@ -99,7 +99,7 @@ module _ (plan : Ends) where
       (λ low. let h = apart two one (omega arith) in omega arith)
       (λ high. let h = apart one two (lt_of_not-le high) in omega arith))
 
-module _ {S : Type 0} (plan : Ends) where
+module _ {S : Type 0} (plan : EndTable) where
   -- who has an end knows the truth of it, and the end is of the board
   pub end_within : (st : State S HandView) (id : ℕ) (v : HandView) (end : ℕ) (h : EndFacts) → Related plan st → get_elem? st.views id ≡ some v → at v.ends end ≡ Some h → end < length plan
   end_within st id v end h r here e =
@@ -166,7 +166,7 @@ module _ {S : Type 0} (plan : Ends) where
       }
 
   -- each station but one is kept, and that one too
-  each_kept : (st : State S HandView) (one k n end : ℕ) (g : EndFacts) → (r : Related plan st) → k < word_count (cap_of plan one) → (end / 2 ≡ one)
+  each_kept : (st : State S HandView) (one k n end : ℕ) (g : EndFacts) → (r : Related plan st) → k < word_count (capacity_of plan one) → (end / 2 ≡ one)
       → Kept (set st.words (first_word plan one + k) n) (first_word plan one) (swapped r.truth end g (fill one)) (swapped r.truth end g (drain one))
       → (station : ℕ) → station < r.stations
       → Kept (set st.words (first_word plan one + k) n) (first_word plan station) (swapped r.truth end g (fill station)) (swapped r.truth end g (drain station))
@@ -177,9 +177,9 @@ module _ {S : Type 0} (plan : Ends) where
       (λ other.
       let fills : swapped r.truth end g (fill station) ≡ r.truth (fill station) = swapped_else r.truth end (fill station) g (λ e. other (omega arith)) in
       let drains : swapped r.truth end g (drain station) ≡ r.truth (drain station) = swapped_else r.truth end (drain station) g (λ e. other (omega arith)) in
-      let cap : (r.truth (fill station)).cap ≡ cap_of plan station = (r.planned (fill station) (omega arith)).cap in
+      let cap : (r.truth (fill station)).cap ≡ capacity_of plan station = (r.planned (fill station) (omega arith)).cap in
       let was = kept_frame st.words (set st.words (first_word plan one + k) n) (first_word plan station) (r.truth (fill station)) (r.truth (drain station)) (r.kept station there)
-      (λ number below. untouched plan st.words one station number k n other inside (let e : word_count (r.truth (fill station)).cap ≡ word_count (cap_of plan station) = ap word_count cap in omega arith)) in
+      (λ number below. untouched plan st.words one station number k n other inside (let e : word_count (r.truth (fill station)).cap ≡ word_count (capacity_of plan station) = ap word_count cap in omega arith)) in
       subst (λ (y : EndFacts). Kept (set st.words (first_word plan one + k) n) (first_word plan station) y (swapped r.truth end g (drain station))) (sym fills)
       (subst (λ (y : EndFacts). Kept (set st.words (first_word plan one + k) n) (first_word plan station) (r.truth (fill station)) y) (sym drains) was))
 
@@ -230,7 +230,7 @@ module _ {S : Type 0} (plan : Ends) where
 
   -- a step at an end that writes a word of its station
   steps_at : (st : State S HandView) (homes : List (mathlib.Core.Option.Option S)) (id : ℕ) (v : HandView) (station k n end : ℕ) (h e : EndFacts) → (r : Related plan st)
-      → get_elem? st.views id ≡ some v → at v.ends end ≡ Some h → IsPlanned h e → k < word_count (cap_of plan station) → end / 2 ≡ station
+      → get_elem? st.views id ≡ some v → at v.ends end ≡ Some h → IsPlanned h e → k < word_count (capacity_of plan station) → end / 2 ≡ station
       → Kept (set st.words (first_word plan station + k) n) (first_word plan station) (swapped r.truth end e (fill station)) (swapped r.truth end e (drain station))
       → Related plan (record { words = set st.words (first_word plan station + k) n; homes = homes; views = set st.views id (record { ends = changed v.ends end e }) })
   steps_at st homes id v station k n end h e r here is same inside side kept =
@@ -242,7 +242,7 @@ module _ {S : Type 0} (plan : Ends) where
 
   -- a step at a drained end
   pub steps_in : (st : State S HandView) (homes : List (mathlib.Core.Option.Option S)) (id : ℕ) (v : HandView) (station k n : ℕ) (d e : EndFacts) → (r : Related plan st)
-      → get_elem? st.views id ≡ some v → at v.ends (drain station) ≡ Some d → IsPlanned d e → k < word_count (cap_of plan station)
+      → get_elem? st.views id ≡ some v → at v.ends (drain station) ≡ Some d → IsPlanned d e → k < word_count (capacity_of plan station)
       → Kept (set st.words (first_word plan station + k) n) (first_word plan station) (r.truth (fill station)) e
       → Related plan (record { words = set st.words (first_word plan station + k) n; homes = homes; views = set st.views id (record { ends = changed v.ends (drain station) e }) })
   steps_in st homes id v station k n d e r here is same inside kept =
@@ -252,7 +252,7 @@ module _ {S : Type 0} (plan : Ends) where
 
   -- a step at a filled end
   pub steps_out : (st : State S HandView) (homes : List (mathlib.Core.Option.Option S)) (id : ℕ) (v : HandView) (station k n : ℕ) (f e : EndFacts) → (r : Related plan st)
-      → get_elem? st.views id ≡ some v → at v.ends (fill station) ≡ Some f → IsPlanned f e → k < word_count (cap_of plan station)
+      → get_elem? st.views id ≡ some v → at v.ends (fill station) ≡ Some f → IsPlanned f e → k < word_count (capacity_of plan station)
       → Kept (set st.words (first_word plan station + k) n) (first_word plan station) e (r.truth (drain station))
       → Related plan (record { words = set st.words (first_word plan station + k) n; homes = homes; views = set st.views id (record { ends = changed v.ends (fill station) e }) })
   steps_out st homes id v station k n f e r here is same inside kept =

@@ -5,16 +5,16 @@ use Rattle.atomic_table.specs.Seated.{table_id_coded}
 use Rattle.lid_board.specs.Lending.{LentHandsComeBack}
 use Rattle.lid_board.specs.Owners.{start_ends, streams_in}
 use Rattle.lid_board.specs.Relation.{AreWithin, stream_of}
-use Rattle.lid_board.specs.Views.{Ends, at, held_of}
+use Rattle.lid_board.specs.Views.{EndTable, at, held_of}
 
 -- the stream at an end, in the list of streams
-stream_in : (plan : Ends) (end : ℕ) → (held_of (at plan end)).stream ≡ get_or (streams_in plan) end []
+stream_in : (plan : EndTable) (end : ℕ) → (held_of (at plan end)).stream ≡ get_or (streams_in plan) end []
 stream_in [] end = refl
 stream_in (o ∷ os) zero = refl
 stream_in (o ∷ os) (suc end) = stream_in os end
 
 -- the same streams have the same lengths
-within_too : (one two ends : Ends) → streams_in one ≡ streams_in two → AreWithin one ends → AreWithin two ends
+within_too : (one two ends : EndTable) → streams_in one ≡ streams_in two → AreWithin one ends → AreWithin two ends
 within_too one two ends same within end h is =
     let e : stream_of one (end / 2) ≡ stream_of two (end / 2) =
     stream_in one (2 * (end / 2)) ∙ ap (λ (ss : List (List ℕ)). get_or ss (2 * (end / 2)) []) same ∙ sym (stream_in two (2 * (end / 2))) in

@@ -3,10 +3,10 @@ use Rattle.std.proofs.Common.{◌≡◌, ℕ, zero, suc, ◌+◌, ◌/◌, ◌<�
 use Rattle.std.specs.Prelude.{Option, Some, None, option_map}
 use Rattle.std.proofs.lemmas.Option.{same_Some}
 use Rattle.lid_station.specs.declared.looks.End.{End}
-use Rattle.lid_board.specs.Parting.{end_number, is_chosen, or_else, unseen, left_from, right_from, merged}
+use Rattle.lid_board.specs.Parting.{end_number, is_chosen, or_else, unseen, left_from, right_from, merged_ends}
 use Rattle.lid_board.specs.Relation.{AreWithin, stream_of}
 use Rattle.lid_board.specs.Ties.{IsTied}
-use Rattle.lid_board.specs.Views.{Ends, at, sure, IsEarly}
+use Rattle.lid_board.specs.Views.{EndTable, at, sure, IsEarly}
 use Rattle.lid_board.specs.declared.view.EndFacts.{EndFacts}
 use Rattle.lid_board.proofs.Parting.{at_left, at_right, at_merged}
 use mathlib.Core.Logic.{dite}
@@ -111,17 +111,17 @@ pub written_at : (xs ys : List (Option ℕ)) (n k : ℕ) (x : Option ℕ) → le
 written_at xs ys n k x long same is = ap (λ (zs : List (Option ℕ)). get_or zs k None) (refilled n xs ys long) ∙ is
 
 -- the numbers of the ends that stay
-pub tied_left : (old new : List (Option ℕ)) (ends : Ends) (chosen : ℕ → Bool) → IsTied old ends → ((k : ℕ) → get_or new k None ≡ cond (chosen k) None (get_or old k None)) → IsTied new (left_from chosen 0 ends)
+pub tied_left : (old new : List (Option ℕ)) (ends : EndTable) (chosen : ℕ → Bool) → IsTied old ends → ((k : ℕ) → get_or new k None ≡ cond (chosen k) None (get_or old k None)) → IsTied new (left_from chosen 0 ends)
 tied_left old new ends chosen tied moved k =
     moved k ∙ ap (cond (chosen k) None) (tied k) ∙ passed_left (chosen k) (at ends k) ∙ sym (ap passed_of (at_left chosen ends k))
 
 -- the numbers of the ends that go
-pub tied_right : (old new : List (Option ℕ)) (ends : Ends) (chosen : ℕ → Bool) → IsTied old ends → ((k : ℕ) → get_or new k None ≡ cond (chosen k) (get_or old k None) None) → IsTied new (right_from chosen 0 ends)
+pub tied_right : (old new : List (Option ℕ)) (ends : EndTable) (chosen : ℕ → Bool) → IsTied old ends → ((k : ℕ) → get_or new k None ≡ cond (chosen k) (get_or old k None) None) → IsTied new (right_from chosen 0 ends)
 tied_right old new ends chosen tied moved k =
     moved k ∙ ap (λ (o : Option ℕ). cond (chosen k) o None) (tied k) ∙ passed_right (chosen k) (at ends k) ∙ sym (ap passed_of (at_right chosen ends k))
 
 -- the numbers of two hands' ends
-pub tied_merged : (old others new : List (Option ℕ)) (ends more : Ends) → IsTied old ends → IsTied others more → ((k : ℕ) → get_or new k None ≡ or_else (get_or old k None) (get_or others k None)) → IsTied new (merged ends more)
+pub tied_merged : (old others new : List (Option ℕ)) (ends more : EndTable) → IsTied old ends → IsTied others more → ((k : ℕ) → get_or new k None ≡ or_else (get_or old k None) (get_or others k None)) → IsTied new (merged_ends ends more)
 tied_merged old others new ends more tied tied_more taken k =
     taken k ∙ ap (λ (o : Option ℕ). or_else o (get_or others k None)) (tied k) ∙ ap (or_else (passed_of (at ends k))) (tied_more k) ∙ passed_else (at ends k) (at more k) ∙ sym (ap passed_of (at_merged ends more k))
 
@@ -136,11 +136,11 @@ right_early false o h e = absurd (cc)
 
 -- what holds at each end of a hand, whether or not it was seen there, holds at each end that stays, and
 -- at each that goes
-each_left : (P : ℕ → EndFacts → Type 0) (ends : Ends) (chosen : ℕ → Bool) → ((k : ℕ) (h : EndFacts) → at ends k ≡ Some h → P k h)
+each_left : (P : ℕ → EndFacts → Type 0) (ends : EndTable) (chosen : ℕ → Bool) → ((k : ℕ) (h : EndFacts) → at ends k ≡ Some h → P k h)
     → (k : ℕ) (h : EndFacts) → at (left_from chosen 0 ends) k ≡ Some h → P k h
 each_left P ends chosen each k h is = each k h (left_early (chosen k) (at ends k) h (sym (at_left chosen ends k) ∙ is))
 
-each_right : (P : ℕ → EndFacts → Type 0) (ends : Ends) (chosen : ℕ → Bool) → ((k : ℕ) (h : EndFacts) → at ends k ≡ Some h → P k (unseen h))
+each_right : (P : ℕ → EndFacts → Type 0) (ends : EndTable) (chosen : ℕ → Bool) → ((k : ℕ) (h : EndFacts) → at ends k ≡ Some h → P k (unseen h))
     → (k : ℕ) (h : EndFacts) → at (right_from chosen 0 ends) k ≡ Some h → P k h
 each_right P ends chosen each k h is =
     let was = right_early (chosen k) (at ends k) h (sym (at_right chosen ends k) ∙ is) in
@@ -152,8 +152,8 @@ merged_early None (Some y) h e P one two = subst P (same_Some (unseen y) h e) (t
 merged_early (Some z) x h e P one two = subst P (same_Some z h e) (one z refl)
 
 -- and at each end of two hands
-each_merged : (P : ℕ → EndFacts → Type 0) (ends more : Ends) → ((k : ℕ) (h : EndFacts) → at ends k ≡ Some h → P k h) → ((k : ℕ) (h : EndFacts) → at more k ≡ Some h → P k (unseen h))
-    → (k : ℕ) (h : EndFacts) → at (merged ends more) k ≡ Some h → P k h
+each_merged : (P : ℕ → EndFacts → Type 0) (ends more : EndTable) → ((k : ℕ) (h : EndFacts) → at ends k ≡ Some h → P k h) → ((k : ℕ) (h : EndFacts) → at more k ≡ Some h → P k (unseen h))
+    → (k : ℕ) (h : EndFacts) → at (merged_ends ends more) k ≡ Some h → P k h
 each_merged P ends more one two k h is =
     merged_early (at ends k) (at more k) h (sym (at_merged ends more k) ∙ is) (P k) (one k) (two k)
 
@@ -161,23 +161,23 @@ each_merged P ends more one two k h is =
 abbrev early_at : ℕ → EndFacts → Type 0
 early_at k h = h.passed < sure k h → h.misses ≡ 0
 
-pub early_left : (ends : Ends) (chosen : ℕ → Bool) → IsEarly ends → IsEarly (left_from chosen 0 ends)
+pub early_left : (ends : EndTable) (chosen : ℕ → Bool) → IsEarly ends → IsEarly (left_from chosen 0 ends)
 early_left ends chosen early = each_left early_at ends chosen early
 
-pub early_right : (ends : Ends) (chosen : ℕ → Bool) → IsEarly ends → IsEarly (right_from chosen 0 ends)
+pub early_right : (ends : EndTable) (chosen : ℕ → Bool) → IsEarly ends → IsEarly (right_from chosen 0 ends)
 early_right ends chosen early = each_right early_at ends chosen early
 
-pub early_merged : (ends more : Ends) → IsEarly ends → IsEarly more → IsEarly (merged ends more)
+pub early_merged : (ends more : EndTable) → IsEarly ends → IsEarly more → IsEarly (merged_ends ends more)
 early_merged ends more early early_more = each_merged early_at ends more early early_more
 
 -- no more tokens passed the ends than their streams have
-pub within_left : (plan ends : Ends) (chosen : ℕ → Bool) → AreWithin plan ends → AreWithin plan (left_from chosen 0 ends)
+pub within_left : (plan ends : EndTable) (chosen : ℕ → Bool) → AreWithin plan ends → AreWithin plan (left_from chosen 0 ends)
 within_left plan ends chosen within = each_left (λ k h. h.passed ≤ length (stream_of plan (k / 2))) ends chosen within
 
-pub within_right : (plan ends : Ends) (chosen : ℕ → Bool) → AreWithin plan ends → AreWithin plan (right_from chosen 0 ends)
+pub within_right : (plan ends : EndTable) (chosen : ℕ → Bool) → AreWithin plan ends → AreWithin plan (right_from chosen 0 ends)
 within_right plan ends chosen within = each_right (λ k h. h.passed ≤ length (stream_of plan (k / 2))) ends chosen within
 
-pub within_merged : (plan ends more : Ends) → AreWithin plan ends → AreWithin plan more → AreWithin plan (merged ends more)
+pub within_merged : (plan ends more : EndTable) → AreWithin plan ends → AreWithin plan more → AreWithin plan (merged_ends ends more)
 within_merged plan ends more within within_more = each_merged (λ k h. h.passed ≤ length (stream_of plan (k / 2))) ends more within within_more
 
 -- one number more was taken

@@ -8,9 +8,9 @@ use Rattle.atomic_table.specs.Table.{State, Splits, Joins}
 use Rattle.atomic_table.proofs.Lists.{at_set, at_snoc, set_else}
 use Rattle.lid_station.specs.Boards.{fill, drain}
 use Rattle.lid_board.specs.Owners.{IsOwned}
-use Rattle.lid_board.specs.Parting.{unseen, or_else, left_from, right_from, merged}
+use Rattle.lid_board.specs.Parting.{unseen, or_else, left_from, right_from, merged_ends}
 use Rattle.lid_board.specs.Relation.{Kept, Related, IsPlanned, first_word}
-use Rattle.lid_board.specs.Views.{Ends, at, held, has, one_of}
+use Rattle.lid_board.specs.Views.{EndTable, at, held, has, one_of}
 use Rattle.lid_board.specs.declared.view.EndFacts.{EndFacts}
 use Rattle.lid_board.specs.declared.view.HandView.{HandView}
 use Rattle.lid_board.proofs.Frames.{sum_set, sum_two}
@@ -25,23 +25,23 @@ none_either true = refl
 none_either false = refl
 
 -- the ends that stay, one by one
-at_left_from : (chosen : ℕ → Bool) (end : ℕ) (os : Ends) (k : ℕ) → at (left_from chosen end os) k ≡ cond (chosen (end + k)) None (at os k)
+at_left_from : (chosen : ℕ → Bool) (end : ℕ) (os : EndTable) (k : ℕ) → at (left_from chosen end os) k ≡ cond (chosen (end + k)) None (at os k)
 at_left_from chosen end [] k = none_either (chosen (end + k))
 at_left_from chosen end (o ∷ os) zero = ap (λ (n : ℕ). cond (chosen n) None o) (let e : end ≡ end + 0 = omega arith in e)
 at_left_from chosen end (o ∷ os) (suc k) = at_left_from chosen (suc end) os k ∙ ap (λ (n : ℕ). cond (chosen n) None (at os k)) (let e : suc end + k ≡ end + suc k = omega arith in e)
 
-at_right_from : (chosen : ℕ → Bool) (end : ℕ) (os : Ends) (k : ℕ) → at (right_from chosen end os) k ≡ cond (chosen (end + k)) (option_map unseen (at os k)) None
+at_right_from : (chosen : ℕ → Bool) (end : ℕ) (os : EndTable) (k : ℕ) → at (right_from chosen end os) k ≡ cond (chosen (end + k)) (option_map unseen (at os k)) None
 at_right_from chosen end [] k = none_either (chosen (end + k))
 at_right_from chosen end (o ∷ os) zero = ap (λ (n : ℕ). cond (chosen n) (option_map unseen o) None) (let e : end ≡ end + 0 = omega arith in e)
 at_right_from chosen end (o ∷ os) (suc k) = at_right_from chosen (suc end) os k ∙ ap (λ (n : ℕ). cond (chosen n) (option_map unseen (at os k)) None) (let e : suc end + k ≡ end + suc k = omega arith in e)
 
-pub at_left : (chosen : ℕ → Bool) (os : Ends) (k : ℕ) → at (left_from chosen 0 os) k ≡ cond (chosen k) None (at os k)
+pub at_left : (chosen : ℕ → Bool) (os : EndTable) (k : ℕ) → at (left_from chosen 0 os) k ≡ cond (chosen k) None (at os k)
 at_left chosen os k = at_left_from chosen 0 os k ∙ ap (λ (n : ℕ). cond (chosen n) None (at os k)) (let e : 0 + k ≡ k = omega arith in e)
 
-pub at_right : (chosen : ℕ → Bool) (os : Ends) (k : ℕ) → at (right_from chosen 0 os) k ≡ cond (chosen k) (option_map unseen (at os k)) None
+pub at_right : (chosen : ℕ → Bool) (os : EndTable) (k : ℕ) → at (right_from chosen 0 os) k ≡ cond (chosen k) (option_map unseen (at os k)) None
 at_right chosen os k = at_right_from chosen 0 os k ∙ ap (λ (n : ℕ). cond (chosen n) (option_map unseen (at os k)) None) (let e : 0 + k ≡ k = omega arith in e)
 
-at_map : (os : Ends) (k : ℕ) → at (map (option_map unseen) os) k ≡ option_map unseen (at os k)
+at_map : (os : EndTable) (k : ℕ) → at (map (option_map unseen) os) k ≡ option_map unseen (at os k)
 at_map [] k = refl
 at_map (o ∷ os) zero = refl
 at_map (o ∷ os) (suc k) = at_map os k
@@ -50,7 +50,7 @@ or-none : {A : Type 0} (o : Option A) → o ≡ or_else o None
 or-none None = refl
 or-none (Some x) = refl
 
-pub at_merged : (os xs : Ends) (k : ℕ) → at (merged os xs) k ≡ or_else (at os k) (option_map unseen (at xs k))
+pub at_merged : (os xs : EndTable) (k : ℕ) → at (merged_ends os xs) k ≡ or_else (at os k) (option_map unseen (at xs k))
 at_merged [] xs k = at_map xs k
 at_merged (o ∷ os) [] k = or-none (at (o ∷ os) k)
 at_merged (o ∷ os) (x ∷ xs) zero = refl
@@ -99,7 +99,7 @@ else_is : (b : Bool) (t : EndFacts) → (b ≡ true → ⊥) → t ≡ let_go b 
 else_is true t not = absurd (not refl)
 else_is false t not = refl
 
-module _ {S : Type 0} (plan : Ends) where
+module _ {S : Type 0} (plan : EndTable) where
   -- ends go from hand to hand: each stays in as many views, and what was seen there may be let go
   dealt : (st : State S HandView) (r : Related plan st) (views : List HandView) (truth : ℕ → EndFacts)
       → ((k : ℕ) → sum_by (has k) views ≡ sum_by (has k) st.views) → ((k : ℕ) → Rests (r.truth k) (truth k))
@@ -181,7 +181,7 @@ none_is : (x : Option EndFacts) (t : EndFacts) → one_of x ≤ 0 → t ≡ gone
 none_is None t le = refl
 none_is (Some y) t le = absurd (omega arith)
 
-module _ {S : Type 0} (plan : Ends) where
+module _ {S : Type 0} (plan : EndTable) where
   most_one : (st : State S HandView) (r : Related plan st) (k : ℕ) → sum_by (has k) st.views ≤ 1
   most_one st r k =
       dite (dec_le (length plan) k)
@@ -189,9 +189,9 @@ module _ {S : Type 0} (plan : Ends) where
       (λ inside. let one = r.one k (lt_of_not-le inside) in omega arith)
 
   -- the ends of a second hand go to the first
-  pub joins : (id : ℕ) (v : HandView) (other : ℕ) (w : HandView) → Joins {S = S} (Related plan) id v other w (record { ends = merged v.ends w.ends }) (record { ends = [] })
+  pub joins : (id : ℕ) (v : HandView) (other : ℕ) (w : HandView) → Joins {S = S} (Related plan) id v other w (record { ends = merged_ends v.ends w.ends }) (record { ends = [] })
   joins id v other w st r here apart there_both =
-      let both : HandView = record { ends = merged v.ends w.ends } in
+      let both : HandView = record { ends = merged_ends v.ends w.ends } in
       let spent : HandView = record { ends = [] } in
       let there : get_elem? st.views other ≡ some w = sym (set_else st.views id other both apart) ∙ there_both in
       let truth : ℕ → EndFacts = λ k. gone_or (at w.ends k) (r.truth k) in

@@ -9,7 +9,7 @@ use lib.ListN.{get_elem?}
 use Rattle.lid_base.specs.Lists.{Extends}
 use Rattle.lid_station.specs.Boards.{fill, drain}
 use Rattle.lid_board.specs.Prefixes.{Prefix, StationsKeepPrefixes, passed_list}
-use Rattle.lid_board.specs.Relation.{Kept, cap_of, stream_of}
+use Rattle.lid_board.specs.Relation.{Kept, capacity_of, stream_of}
 use Rattle.lid_board.specs.Views.{at, has, one_of}
 use Rattle.lid_board.specs.declared.view.EndFacts.{EndFacts}
 use Rattle.lid_board.specs.declared.view.HandView.{HandView}
@@ -72,9 +72,9 @@ keep_prefixes plan st r station inside =
           let f_is : f ≡ r.truth (fill station) = r.agree by_f.0 by_f.1 (fill station) f by_f.2 by_f.3 in
           let d_is : d ≡ r.truth (drain station) = r.agree by_d.0 by_d.1 (drain station) d by_d.2 by_d.3 in
           let truly = kept_prefix st.words _ (r.truth (fill station)) (r.truth (drain station)) (r.kept station (omega arith)) in
-          let here : Prefix (cap_of plan station) (passed_list (r.truth (fill station))) (passed_list (r.truth (drain station))) (stream_of plan station) =
+          let here : Prefix (capacity_of plan station) (passed_list (r.truth (fill station))) (passed_list (r.truth (drain station))) (stream_of plan station) =
           subst (λ (cap : ℕ). Prefix cap (passed_list (r.truth (fill station))) (passed_list (r.truth (drain station))) (stream_of plan station)) p.cap
           (subst (λ (s : List ℕ). Prefix (r.truth (fill station)).cap (passed_list (r.truth (fill station))) (passed_list (r.truth (drain station))) s) p.stream truly) in
-          subst (λ (g : EndFacts). Prefix (cap_of plan station) (passed_list g) (passed_list d) (stream_of plan station)) (sym f_is)
-          (subst (λ (g : EndFacts). Prefix (cap_of plan station) (passed_list (r.truth (fill station))) (passed_list g) (stream_of plan station)) (sym d_is) here);
+          subst (λ (g : EndFacts). Prefix (capacity_of plan station) (passed_list g) (passed_list d) (stream_of plan station)) (sym f_is)
+          (subst (λ (g : EndFacts). Prefix (capacity_of plan station) (passed_list (r.truth (fill station))) (passed_list g) (stream_of plan station)) (sym d_is) here);
     }

@@ -12,10 +12,10 @@ use Rattle.lid_station.specs.Starts.{start_count}
 use Rattle.lid_station.specs.Words.{word}
 use Rattle.lid_station.proofs.Words.{word_nothing}
 use Rattle.lid_board.specs.Halves.{filling}
-use Rattle.lid_board.specs.Relation.{AreWithin, Kept, Related, word_count, first_word, cap_of, stream_of}
-use Rattle.lid_board.specs.Starts.{starts_from, starts, start_fill, start_drain, start_word, first_of, AreStreamsFor, AreLaid, AreFirsts, AreNumbers, HasLaidWords}
+use Rattle.lid_board.specs.Relation.{AreWithin, Kept, Related, word_count, first_word, capacity_of, stream_of}
+use Rattle.lid_board.specs.Starts.{starts_from, first_ends, start_fill, start_drain, start_word, first_of, AreStreamsFor, AreLaid, AreFirsts, AreNumbers, HasLaidWords}
 use Rattle.lid_board.specs.Ties.{IsTied, IsLaidTable}
-use Rattle.lid_board.specs.Views.{Ends, at, has, held, held_of, one_of, IsEarly}
+use Rattle.lid_board.specs.Views.{EndTable, at, has, held, held_of, one_of, IsEarly}
 use Rattle.lid_board.specs.declared.view.EndFacts.{EndFacts}
 use Rattle.lid_board.specs.declared.view.HandView.{HandView}
 use Rattle.lid_board.proofs.Halving.{put_here, put_else}
@@ -110,21 +110,21 @@ module _ (firsts : List (Option ℕ)) (caps : List ℕ) (streams : List (List �
       ∙ starts_from_drain (suc station) count k (omega arith)
       ∙ ap (λ (n : ℕ). Some (start_drain firsts caps streams n)) (let e : suc station + k ≡ station + suc k = omega arith in e)
 
-  module _ (plan : Ends) (is : plan ≡ starts firsts caps streams) where
+  module _ (plan : EndTable) (is : plan ≡ first_ends firsts caps streams) where
     pub plan_long : length plan ≡ 2 * length firsts
-    plan_long = ap (λ (p : Ends). length p) is ∙ starts_from_long 0 (length firsts)
+    plan_long = ap (λ (p : EndTable). length p) is ∙ starts_from_long 0 (length firsts)
 
     pub plan_fill : (station : ℕ) → station < length firsts → at plan (fill station) ≡ Some (start_fill firsts caps streams station)
     plan_fill station there =
-        ap (λ (p : Ends). at p (fill station)) is ∙ starts_from_fill 0 (length firsts) station there
+        ap (λ (p : EndTable). at p (fill station)) is ∙ starts_from_fill 0 (length firsts) station there
         ∙ ap (λ (n : ℕ). Some (start_fill firsts caps streams n)) (let e : 0 + station ≡ station = omega arith in e)
 
     pub plan_drain : (station : ℕ) → station < length firsts → at plan (drain station) ≡ Some (start_drain firsts caps streams station)
     plan_drain station there =
-        ap (λ (p : Ends). at p (drain station)) is ∙ starts_from_drain 0 (length firsts) station there
+        ap (λ (p : EndTable). at p (drain station)) is ∙ starts_from_drain 0 (length firsts) station there
         ∙ ap (λ (n : ℕ). Some (start_drain firsts caps streams n)) (let e : 0 + station ≡ station = omega arith in e)
 
-    plan_cap : (station : ℕ) → station < length firsts → cap_of plan station ≡ get_or caps station 0
+    plan_cap : (station : ℕ) → station < length firsts → capacity_of plan station ≡ get_or caps station 0
     plan_cap station there = ap (λ (o : Option EndFacts). (held_of o).cap) (plan_fill station there)
 
     pub plan_stream : (station : ℕ) → station < length firsts → stream_of plan station ≡ get_or streams station []
@@ -133,7 +133,7 @@ module _ (firsts : List (Option ℕ)) (caps : List ℕ) (streams : List (List �
     plan_first : (station : ℕ) → station ≤ length firsts → first_word plan station ≡ first_of caps station
     plan_first zero le = refl
     plan_first (suc station) le =
-        ap (λ (n : ℕ). n + word_count (cap_of plan station)) (plan_first station (omega arith))
+        ap (λ (n : ℕ). n + word_count (capacity_of plan station)) (plan_first station (omega arith))
         ∙ ap (λ (n : ℕ). first_of caps station + word_count n) (plan_cap station (omega arith))
 
     low_first : ((s : ℕ) → s < length firsts → get_or caps s 0 ≤ 16) → (station : ℕ) → station ≤ length firsts → first_of caps station ≤ 1 + 8 * station
@@ -153,7 +153,7 @@ module _ (firsts : List (Option ℕ)) (caps : List ℕ) (streams : List (List �
           sizes = λ station there. sym (plan_cap station (omega arith));
           two = λ station there. All-get_or (λ (cap : ℕ). 2 ≤ cap) caps station 0 there two;
           most = λ station there. All-get_or (λ (cap : ℕ). cap ≤ 16) caps station 0 there most;
-          starts = λ station there. numbers.each station (omega arith) ∙ sym (plan_first station (omega arith));
+          first_ends = λ station there. numbers.each station (omega arith) ∙ sym (plan_first station (omega arith));
           low = λ station there.
               let h = numbers.each station (omega arith) in
               let l = low_first (λ s inside. All-get_or (λ (cap : ℕ). cap ≤ 16) caps s 0 (omega arith) most) station (omega arith) in
@@ -262,7 +262,7 @@ module _ (firsts : List (Option ℕ)) (caps : List ℕ) (streams : List (List �
         → Related plan (record { words = words; homes = homes; views = v ∷ [] })
     start_related words homes v ends begins same two most laid =
         let long = plan_long in
-        let view : (end : ℕ) → has end v ≡ one_of (at plan end) = λ end. ap (λ (p : Ends). one_of (at p end)) ends in
+        let view : (end : ℕ) → has end v ≡ one_of (at plan end) = λ end. ap (λ (p : EndTable). one_of (at p end)) ends in
         record {
           truth = held plan;
           stations = length firsts;
@@ -288,7 +288,7 @@ module _ (firsts : List (Option ℕ)) (caps : List ℕ) (streams : List (List �
               omega arith;
           agree = λ j u end h here e.
               let u_is : v ≡ u = only v u j here in
-              let known : at plan end ≡ Some h = ap (λ (p : Ends). at p end) (sym ends ∙ ap (λ (y : HandView). y.ends) u_is) ∙ e in
+              let known : at plan end ≡ Some h = ap (λ (p : EndTable). at p end) (sym ends ∙ ap (λ (y : HandView). y.ends) u_is) ∙ e in
               sym (ap held_of known);
           planned = λ end inside. record { stream = refl; start = refl; cap = refl };
           kept = λ station there.

@@ -2,15 +2,15 @@
 use Rattle.std.specs.Prelude.{◌≡◌, ℕ, ◌<◌, ◌+◌, ◌*◌, ◌/◌, ◌%◌, List, length, map, Some}
 use base.Stored.{Gv, gnum, gcons, coded_ℕ, coded_list}
 use Rattle.atomic_table.specs.Seated.{TableId, table_id_coded}
-use Rattle.lid_board.specs.Relation.{AreWithin, first_word, cap_of}
-use Rattle.lid_board.specs.Views.{Ends, at, held, held_of}
+use Rattle.lid_board.specs.Relation.{AreWithin, first_word, capacity_of}
+use Rattle.lid_board.specs.Views.{EndTable, at, held, held_of}
 use Rattle.lid_board.specs.declared.board.Board.{Board}
 use Rattle.lid_board.specs.declared.calls.Spot.{Spot}
 use Rattle.lid_board.specs.declared.hand.Hand.{Hand}
 use Rattle.lid_board.specs.declared.view.EndFacts.{EndFacts}
 
 -- what is known at the ends that a hand owns
-abbrev pub ends_of : Hand → Ends
+abbrev pub ends_of : Hand → EndTable
 ends_of hand = hand.seat.me.0.ends
 
 -- a seat of the first table is one of the second, which has this word
@@ -19,11 +19,11 @@ IsAtWord mine table word = (mine ≡ table) × (word < table.words)
 
 -- what was known at the ends of a board at its start: the streams, start counts and capacities,
 -- which never change
-abbrev pub start_ends : Board → Ends
+abbrev pub start_ends : Board → EndTable
 start_ends board = board.table.shared.key.me.0.ends
 
 -- the streams at the ends of a plan, in order
-abbrev pub streams_in : Ends → List (List ℕ)
+abbrev pub streams_in : EndTable → List (List ℕ)
 streams_in plan = map (λ o. (held_of o).stream) plan
 
 -- what a hand that was lent, and its board, are made of: the hand's ghost name, how many ends it has
@@ -42,7 +42,7 @@ pub record IsOf (hand : Hand) (board : Board) : Type 0 where
   pub within : AreWithin (start_ends board) (ends_of hand)
 
 -- whether an end is among these
-abbrev pub IsOwned : Ends → ℕ → Type 0
+abbrev pub IsOwned : EndTable → ℕ → Type 0
 IsOwned ends end = at ends end ≡ Some (held ends end)
 
 -- an end is one of those that a hand of a board owns
@@ -51,7 +51,7 @@ pub record HasEnd (hand : Hand) (board : Board) (end : ℕ) : Type 0 where
   pub owned : IsOwned (ends_of hand) end
 
 -- where the next token of an end is: its place, and the word of that place
-pub record IsSpot (plan : Ends) (station : ℕ) (h : EndFacts) (spot : Spot) : Type 0 where
+pub record IsSpot (plan : EndTable) (station : ℕ) (h : EndFacts) (spot : Spot) : Type 0 where
   pub passed : spot.passed ≡ h.passed
-  pub place : spot.place ≡ h.passed % cap_of plan station
+  pub place : spot.place ≡ h.passed % capacity_of plan station
   pub word : spot.word ≡ first_word plan station + spot.place / 2

@@ -4,7 +4,7 @@ use Rattle.lid_station.specs.Boards.{fill, drain}
 use Rattle.lid_station.specs.declared.looks.End.{End}
 use Rattle.lid_station.specs.declared.looks.Side.{Side}
 use Rattle.lid_station.specs.declared.looks.Side.TheVariants.{Fill, Drain}
-use Rattle.lid_board.specs.Views.{Ends}
+use Rattle.lid_board.specs.Views.{EndTable}
 use Rattle.lid_board.specs.declared.view.EndFacts.{EndFacts}
 
 -- the number of a side's end of a station
@@ -31,17 +31,17 @@ or_else None o = o
 or_else (Some x) o = Some x
 
 -- the ends that stay, numbered from `end` on
-abbrev pub left_from : (ℕ → Bool) → ℕ → Ends → Ends
+abbrev pub left_from : (ℕ → Bool) → ℕ → EndTable → EndTable
 left_from chosen end [] = []
 left_from chosen end (o ∷ os) = cond (chosen end) None o ∷ left_from chosen (suc end) os
 
 -- the ends that go, with nothing seen
-abbrev pub right_from : (ℕ → Bool) → ℕ → Ends → Ends
+abbrev pub right_from : (ℕ → Bool) → ℕ → EndTable → EndTable
 right_from chosen end [] = []
 right_from chosen end (o ∷ os) = cond (chosen end) (option_map unseen o) None ∷ right_from chosen (suc end) os
 
 -- two hands' ends, with nothing seen at those of the second
-abbrev pub merged : Ends → Ends → Ends
-merged [] others = map (option_map unseen) others
-merged (o ∷ os) [] = o ∷ os
-merged (o ∷ os) (x ∷ xs) = or_else o (option_map unseen x) ∷ merged os xs
+abbrev pub merged_ends : EndTable → EndTable → EndTable
+merged_ends [] others = map (option_map unseen) others
+merged_ends (o ∷ os) [] = o ∷ os
+merged_ends (o ∷ os) (x ∷ xs) = or_else o (option_map unseen x) ∷ merged_ends os xs

@@ -6,8 +6,8 @@ use lib.ListN.{get_elem?}
 use Rattle.atomic_table.specs.Table.{State}
 use Rattle.lid_base.specs.Lists.{Extends}
 use Rattle.lid_station.specs.Boards.{fill, drain}
-use Rattle.lid_board.specs.Relation.{Related, cap_of, stream_of}
-use Rattle.lid_board.specs.Views.{Ends, at}
+use Rattle.lid_board.specs.Relation.{Related, capacity_of, stream_of}
+use Rattle.lid_board.specs.Views.{EndTable, at}
 use Rattle.lid_board.specs.declared.view.EndFacts.{EndFacts}
 use Rattle.lid_board.specs.declared.view.HandView.{HandView}
 
@@ -27,16 +27,16 @@ abbrev pub IsHeld : {S : Type 0} → State S HandView → ℕ → EndFacts → T
 IsHeld st end h = (j : ℕ) × (v : HandView) × (get_elem? st.views j ≡ some v) × (at v.ends end ≡ Some h)
 
 -- each end of a station is held, and whatever is known at the two, Prefix holds of the lists passed
-pub record KeepsPrefix {S : Type 0} (plan : Ends) (st : State S HandView) (station : ℕ) : Type 0 where
+pub record KeepsPrefix {S : Type 0} (plan : EndTable) (st : State S HandView) (station : ℕ) : Type 0 where
   pub filled : (f : EndFacts) × IsHeld st (fill station) f
   pub drained : (d : EndFacts) × IsHeld st (drain station) d
   pub prefix :
       (f d : EndFacts) → IsHeld st (fill station) f → IsHeld st (drain station) d
-      → Prefix (cap_of plan station) (passed_list f) (passed_list d) (stream_of plan station)
+      → Prefix (capacity_of plan station) (passed_list f) (passed_list d) (stream_of plan station)
 
 -- between any two steps of any hands, each station keeps to that: the rule of the table, which holds
 -- then, gives it
 abbrev pub StationsKeepPrefixes : Type 0
 StationsKeepPrefixes =
-    (plan : Ends) → (st : State (Unit {0}) HandView) → Related plan st
+    (plan : EndTable) → (st : State (Unit {0}) HandView) → Related plan st
     → (station : ℕ) → fill station < length plan → KeepsPrefix plan st station

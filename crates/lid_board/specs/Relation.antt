@@ -6,7 +6,7 @@ use lib.ListN.{get_elem?}
 use Rattle.atomic_table.specs.Table.{State}
 use Rattle.lid_station.specs.Boards.{fill, drain}
 use Rattle.lid_station.specs.Words.{word}
-use Rattle.lid_board.specs.Views.{Ends, at, held, has}
+use Rattle.lid_board.specs.Views.{EndTable, at, held, has}
 use Rattle.lid_board.specs.declared.view.EndFacts.{EndFacts}
 use Rattle.lid_board.specs.declared.view.HandView.{HandView}
 
@@ -16,19 +16,19 @@ word_count cap = (cap + 1) / 2
 
 -- the number of the first word of a station. Word 0 belongs to no station, and the words of the
 -- stations follow in order
-abbrev pub first_word : Ends → ℕ → ℕ
+abbrev pub first_word : EndTable → ℕ → ℕ
 first_word plan zero = 1
 first_word plan (suc station) = first_word plan station + word_count (held plan (fill station)).cap
 
 -- the stream and the capacity of a station
-abbrev pub stream_of : Ends → ℕ → List ℕ
+abbrev pub stream_of : EndTable → ℕ → List ℕ
 stream_of plan station = (held plan (fill station)).stream
 
-abbrev pub cap_of : Ends → ℕ → ℕ
-cap_of plan station = (held plan (fill station)).cap
+abbrev pub capacity_of : EndTable → ℕ → ℕ
+capacity_of plan station = (held plan (fill station)).cap
 
 -- whether no end was passed by more tokens than the stream of its station has
-abbrev pub AreWithin : Ends → Ends → Type 0
+abbrev pub AreWithin : EndTable → EndTable → Type 0
 AreWithin plan ends = (end : ℕ) → (h : EndFacts) → at ends end ≡ Some h → h.passed ≤ length (stream_of plan (end / 2))
 
 -- what never changes at an end: the stream, how many tokens the station started with, the capacity
@@ -74,7 +74,7 @@ pub record Kept (words : List ℕ) (first : ℕ) (f d : EndFacts) : Type 0 where
 
 -- The whole board. `plan` is what was known at the ends at the start, and `truth` is what is known
 -- at each end now, whoever has it. Each end is in exactly one view
-pub record Related {S : Type 0} (plan : Ends) (st : State S HandView) : Type 0 where
+pub record Related {S : Type 0} (plan : EndTable) (st : State S HandView) : Type 0 where
   pub truth : ℕ → EndFacts
   pub stations : ℕ
   pub ends : length plan ≡ 2 * stations

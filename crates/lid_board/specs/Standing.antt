@@ -5,17 +5,17 @@ use Rattle.std.proofs.lemmas.Option.{same_Some}
 use Rattle.lid_station.specs.Boards.{Facts, fill}
 use Rattle.lid_board.specs.Owners.{IsOf, ends_of, start_ends}
 use Rattle.lid_board.specs.Relation.{stream_of}
-use Rattle.lid_board.specs.Views.{Ends, at, facts, facts_at}
+use Rattle.lid_board.specs.Views.{EndTable, at, facts, facts_at}
 use Rattle.lid_board.specs.declared.board.Board.{Board}
 use Rattle.lid_board.specs.declared.hand.Hand.{Hand}
 use Rattle.lid_board.specs.declared.view.EndFacts.{EndFacts}
 
 -- whether these are the streams of a board, for each of its stations
-abbrev pub AreStreamsOf : Ends → (ℕ → List ℕ) → Type 0
+abbrev pub AreStreamsOf : EndTable → (ℕ → List ℕ) → Type 0
 AreStreamsOf plan streams = (station : ℕ) → fill station < length plan → stream_of plan station ≡ streams station
 
 -- whether a token is the next of the board's stream at the filled end of a station
-abbrev pub Admits : Ends → Ends → ℕ → ℕ → Type 0
+abbrev pub Admits : EndTable → EndTable → ℕ → ℕ → Type 0
 Admits plan ends station token =
     (f : Facts) → facts_at ends (fill station) ≡ Some f → slice_get (stream_of plan station) f.passed ≡ Some token
 

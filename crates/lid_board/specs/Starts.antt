@@ -3,7 +3,7 @@ use Rattle.std.specs.Prelude.{◌≡◌, ℕ, zero, suc, ◌+◌, ◌*◌, ◌^�
 use Rattle.std.specs.List.{All}
 use Rattle.lid_station.specs.Starts.{start_count}
 use Rattle.lid_board.specs.Relation.{word_count}
-use Rattle.lid_board.specs.Views.{Ends}
+use Rattle.lid_board.specs.Views.{EndTable}
 use Rattle.lid_board.specs.declared.view.EndFacts.{EndFacts}
 
 -- what is known at an end that so many tokens passed, of a station at its start
@@ -22,15 +22,15 @@ start_drain firsts caps streams station =
     started (slice_index_or firsts station None) (slice_index caps station) (slice_index_or streams station []) 0
 
 -- what is known at the ends of `count` stations from a station on
-abbrev pub starts_from : List (Option ℕ) → List ℕ → List (List ℕ) → ℕ → ℕ → Ends
+abbrev pub starts_from : List (Option ℕ) → List ℕ → List (List ℕ) → ℕ → ℕ → EndTable
 starts_from firsts caps streams station zero = []
 starts_from firsts caps streams station (suc count) =
     Some (start_fill firsts caps streams station) ∷ Some (start_drain firsts caps streams station)
     ∷ starts_from firsts caps streams (suc station) count
 
 -- what is known at all ends at the start
-abbrev pub starts : List (Option ℕ) → List ℕ → List (List ℕ) → Ends
-starts firsts caps streams = starts_from firsts caps streams 0 (length firsts)
+abbrev pub first_ends : List (Option ℕ) → List ℕ → List (List ℕ) → EndTable
+first_ends firsts caps streams = starts_from firsts caps streams 0 (length firsts)
 
 -- whether streams are those of a course for these start tokens: one of 31-bit tokens for each
 -- station, of fewer than 2^64, which begins with the start token

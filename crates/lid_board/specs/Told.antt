@@ -3,19 +3,19 @@ use Rattle.std.specs.Prelude.{◌≡◌, ℕ, ◌+◌, ◌-◌, ◌^◌, ◌<◌
 use Rattle.lid_station.specs.Boards.{fill, drain, HasFullBits}
 use Rattle.lid_station.specs.Words.{word, word_number}
 use Rattle.lid_board.specs.Halves.{word_half}
-use Rattle.lid_board.specs.Relation.{AreWithin, stream_of, cap_of}
-use Rattle.lid_board.specs.Views.{Ends, at, IsEarly, held_seen, missing, passing, changed}
+use Rattle.lid_board.specs.Relation.{AreWithin, stream_of, capacity_of}
+use Rattle.lid_board.specs.Views.{EndTable, at, IsEarly, held_seen, missing, passing, changed}
 use Rattle.lid_board.specs.declared.view.EndFacts.{EndFacts}
 
 -- an end is of the station of the plan, the hand's ends stay early, and within their streams
-pub record IsOfPlan (plan : Ends) (station : ℕ) (h : EndFacts) (new : Ends) : Type 0 where
+pub record IsOfPlan (plan : EndTable) (station : ℕ) (h : EndFacts) (new : EndTable) : Type 0 where
   pub stream : h.stream ≡ stream_of plan station
-  pub cap : h.cap ≡ cap_of plan station
+  pub cap : h.cap ≡ capacity_of plan station
   pub early : IsEarly new
   pub within : AreWithin plan new
 
 -- a load by the drainer found nothing
-pub record FoundVoid (old : Ends) (station : ℕ) (d : EndFacts) (found : ℕ) (new : Ends) : Type 0 where
+pub record FoundVoid (old : EndTable) (station : ℕ) (d : EndFacts) (found : ℕ) (new : EndTable) : Type 0 where
   pub now : new ≡ changed old (drain station) (missing d)
   pub nothing : found ≡ 0
   pub started : d.start ≤ d.passed
@@ -28,7 +28,7 @@ pub record ShowsNext (d : EndFacts) (half : ℕ) : Type 0 where
   pub next : slice_get d.stream d.passed ≡ Some (half - 2147483648)
 
 -- a load by the drainer
-pub record LooksIn (plan old : Ends) (station place : ℕ) (d : EndFacts) (found : ℕ) (new : Ends) : Type 0 where
+pub record LooksIn (plan old : EndTable) (station place : ℕ) (d : EndFacts) (found : ℕ) (new : EndTable) : Type 0 where
   pub right : IsOfPlan plan station d new
   pub void : word_half place found ≡ 0 → FoundVoid old station d found new
   pub token : (word_half place found ≡ 0 → ⊥) → (new ≡ changed old (drain station) (held_seen d)) × ShowsNext d (word_half place found)
@@ -37,7 +37,7 @@ pub record LooksIn (plan old : Ends) (station place : ℕ) (d : EndFacts) (found
       → (word_half place found ≡ 0 → f.passed ≡ d.passed) × (f.passed ≡ d.passed → word_half place found ≡ 0)
 
 -- a load by the filler found no room
-pub record FoundStop (old : Ends) (station : ℕ) (f : EndFacts) (found : ℕ) (new : Ends) : Type 0 where
+pub record FoundStop (old : EndTable) (station : ℕ) (f : EndFacts) (found : ℕ) (new : EndTable) : Type 0 where
   pub now : new ≡ changed old (fill station) (missing f)
   pub unseen : f.mark ≡ true → ⊥
   pub filled : f.cap ≤ f.passed
@@ -45,7 +45,7 @@ pub record FoundStop (old : Ends) (station : ℕ) (f : EndFacts) (found : ℕ) (
   pub bits : HasFullBits f.cap (word_number f.cap f.passed) found
 
 -- a load by the filler
-pub record LooksOut (plan old : Ends) (station place : ℕ) (f : EndFacts) (found : ℕ) (new : Ends) : Type 0 where
+pub record LooksOut (plan old : EndTable) (station place : ℕ) (f : EndFacts) (found : ℕ) (new : EndTable) : Type 0 where
   pub right : IsOfPlan plan station f new
   pub room : word_half place found ≡ 0 → new ≡ changed old (fill station) (held_seen f)
   pub stop : (word_half place found ≡ 0 → ⊥) → FoundStop old station f found new
@@ -54,14 +54,14 @@ pub record LooksOut (plan old : Ends) (station place : ℕ) (f : EndFacts) (foun
       → ((word_half place found ≡ 0 → ⊥) → f.passed ≡ d.passed + f.cap) × (f.passed ≡ d.passed + f.cap → word_half place found ≡ 0 → ⊥)
 
 -- a `fetch_and` by the drainer
-pub record TakesToken (plan old : Ends) (station place : ℕ) (d : EndFacts) (found : ℕ) (new : Ends) : Type 0 where
+pub record TakesToken (plan old : EndTable) (station place : ℕ) (d : EndFacts) (found : ℕ) (new : EndTable) : Type 0 where
   pub right : IsOfPlan plan station d new
   pub now : new ≡ changed old (drain station) (passing d)
   pub token : ShowsNext d (word_half place found)
   pub counted : d.passed + 1 < 2 ^ 64
 
 -- a `fetch_or` by the filler
-pub record Puts (plan old : Ends) (station : ℕ) (f : EndFacts) (new : Ends) : Type 0 where
+pub record Puts (plan old : EndTable) (station : ℕ) (f : EndFacts) (new : EndTable) : Type 0 where
   pub right : IsOfPlan plan station f new
   pub now : new ≡ changed old (fill station) (passing f)
   pub counted : f.passed + 1 < 2 ^ 64

@@ -5,11 +5,11 @@ use Rattle.lid_board.specs.declared.view.EndFacts.{EndFacts}
 use Rattle.lid_board.specs.declared.view.HandView.{HandView}
 
 -- what is known at each end, by its number; nothing of an end that another has
-abbrev pub Ends : Type 0
-Ends = List (Option EndFacts)
+abbrev pub EndTable : Type 0
+EndTable = List (Option EndFacts)
 
 -- what is known at an end
-abbrev pub at : Ends → ℕ → Option EndFacts
+abbrev pub at : EndTable → ℕ → Option EndFacts
 at ends end = slice_index_or ends end None
 
 -- what is known of an end of which nothing is known
@@ -21,7 +21,7 @@ held_of None = blank
 held_of (Some h) = h
 
 -- what is known at an end that is there
-abbrev pub held : Ends → ℕ → EndFacts
+abbrev pub held : EndTable → ℕ → EndFacts
 held ends end = held_of (at ends end)
 
 -- 1 for an end that is there, else 0
@@ -38,7 +38,7 @@ abbrev pub facts : EndFacts → Facts
 facts h = record { cap = h.cap; start = h.start; passed = h.passed; mark = h.mark; misses = Some h.misses }
 
 -- what a trait of stations sees of ends
-abbrev pub facts_at : Ends → ℕ → Option Facts
+abbrev pub facts_at : EndTable → ℕ → Option Facts
 facts_at ends end = option_map facts (at ends end)
 
 -- how many tokens must have passed an end before a look there can miss: at a filled end the
@@ -47,7 +47,7 @@ abbrev pub sure : ℕ → EndFacts → ℕ
 sure end h = cond (end % 2 == 0) h.cap h.start
 
 -- no look missed at an end that fewer tokens passed
-abbrev pub IsEarly : Ends → Type 0
+abbrev pub IsEarly : EndTable → Type 0
 IsEarly ends = (end : ℕ) → (h : EndFacts) → at ends end ≡ Some h → h.passed < sure end h → h.misses ≡ 0
 
 -- a token or room was seen
@@ -63,5 +63,5 @@ abbrev pub passing : EndFacts → EndFacts
 passing h = record h { passed = h.passed + 1; mark = false }
 
 -- what is known at one end has changed
-abbrev pub changed : Ends → ℕ → EndFacts → Ends
+abbrev pub changed : EndTable → ℕ → EndFacts → EndTable
 changed ends end h = slice_set ends end (Some h)

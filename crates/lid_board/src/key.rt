@@ -4,7 +4,7 @@
 //! carries it to the table of the board.
 
 ghost use Rattle.std.specs.Prelude.{◌≡◌, [], IfOk, length};
-ghost use Rattle.lid_board.specs.Starts.{starts};
+ghost use Rattle.lid_board.specs.Starts.{first_ends};
 ghost use Rattle.lid_board.specs.declared.view.HandView.{HandView};
 
 use crate::course::Course;
@@ -63,7 +63,7 @@ pub(crate) fn key_of<C: Course>(
     caps: &[u32],
     course: &C,
 ) -> Result<Seat<(), HandView>, AllocError>
-    ensures { IfOk result (λ seat. seat.me.0.ends ≡ starts firsts.now caps.now (C.streams course.now)) }
+    ensures { IfOk result (λ seat. seat.me.0.ends ≡ first_ends firsts.now caps.now (C.streams course.now)) }
 {
     key_as::<Brand, C>(alloc, firsts, caps, course)
 }

@@ -6,7 +6,7 @@ ghost use Rattle.lid_station.specs.Boards.{fill, drain};
 ghost use Rattle.lid_board.specs.Owners.{IsOf, ends_of, start_ends};
 ghost use Rattle.lid_board.specs.Relation.{word_count};
 ghost use Rattle.lid_board.specs.Standing.{AreStreamsOf};
-ghost use Rattle.lid_board.specs.Starts.{starts, start_fill, start_drain, start_word, AreStreamsFor, AreLaid, AreFirsts, AreNumbers, CanStart, HasLaidWords};
+ghost use Rattle.lid_board.specs.Starts.{first_ends, start_fill, start_drain, start_word, AreStreamsFor, AreLaid, AreFirsts, AreNumbers, CanStart, HasLaidWords};
 ghost use Rattle.lid_board.specs.Views.{at};
 
 use crate::board::Board;
@@ -51,7 +51,7 @@ fn lay_station(words: &mut Vec<u64>, word: u64, cap: u32) -> Result<(), AllocErr
 fn lay(alloc: Global, firsts: &[Option<u32>], caps: &[u32]) -> Result<Laid, AllocError>
     requires { CanStart firsts.now caps.now }
     ensures words { IfOk result (λ laid. AreLaid firsts.now caps.now laid.words.items (length firsts.now)) }
-    ensures starts { IfOk result (λ laid. AreFirsts caps.now laid.starts.items (length firsts.now)) }
+    ensures first_ends { IfOk result (λ laid. AreFirsts caps.now laid.starts.items (length firsts.now)) }
 {
     let mut words = Vec::new(alloc);
     words.push(0)?;
@@ -88,7 +88,7 @@ struct Ground {
 fn lay_ground(alloc: Global, firsts: &[Option<u32>], caps: &[u32]) -> Result<Ground, AllocError>
     requires { CanStart firsts.now caps.now }
     ensures words { IfOk result (λ ground. AreLaid firsts.now caps.now ground.words.items (length firsts.now)) }
-    ensures starts { IfOk result (λ ground. AreFirsts caps.now ground.starts.items (length firsts.now)) }
+    ensures first_ends { IfOk result (λ ground. AreFirsts caps.now ground.starts.items (length firsts.now)) }
     ensures caps { IfOk result (λ ground. ground.caps.items ≡ caps.now) }
     ensures ends { IfOk result (λ ground. AreNumbers firsts.now ground.ends.items (length firsts.now)) }
 {
@@ -127,7 +127,7 @@ impl Board {
         requires small { All (λ first. IfSome first (λ token. token < 2 ^ 31)) firsts.now }
         requires course { AreStreamsFor firsts.now (C.streams course.now) }
         ensures of { IfOk result (λ r. IsOf r.1 r.0) }
-        ensures plan { IfOk result (λ r. start_ends r.0 ≡ starts firsts.now caps.now (C.streams course.now)) }
+        ensures plan { IfOk result (λ r. start_ends r.0 ≡ first_ends firsts.now caps.now (C.streams course.now)) }
         ensures many { IfOk result (λ r. length (start_ends r.0) ≡ 2 * length firsts.now) }
         ensures all { IfOk result (λ r. ends_of r.1 ≡ start_ends r.0) }
         ensures fills { IfOk result (λ r. (station : ℕ) → station < length firsts.now

@@ -3,7 +3,7 @@
 ghost use Rattle.std.specs.Prelude.{◌≡◌, ℕ, ◌<◌, bit_and, bit_or, Bool, true, false, []};
 ghost use Rattle.atomic_table.specs.Table.{Allows};
 ghost use Rattle.lid_board.specs.Owners.{IsOwned, IsAtWord};
-ghost use Rattle.lid_board.specs.Parting.{left_from, right_from, merged};
+ghost use Rattle.lid_board.specs.Parting.{left_from, right_from, merged_ends};
 ghost use Rattle.lid_board.specs.Relation.{Related};
 ghost use Rattle.lid_board.specs.Views.{IsEarly};
 ghost use Rattle.lid_board.specs.declared.view.HandView.{HandView};
@@ -133,7 +133,7 @@ pub(crate) fn split_as<J: Choosing>(
 struct Both;
 
 impl Join<HandView> for Both {
-    ghost both = { λ v w. record { ends = merged v.ends w.ends } };
+    ghost both = { λ v w. record { ends = merged_ends v.ends w.ends } };
 
     ghost spent = { record { ends = [] } };
 }
@@ -144,7 +144,7 @@ pub(crate) fn join_both(cells: &Cells, seat: &mut Seat<(), HandView>, other: Sea
     requires other { other.table_id ≡ cells.now.table_id }
     requires no_slot { other.me.1 ≡ [] }
     ensures seat { (seat.new.table_id ≡ seat.old.table_id) × (seat.new.me.1 ≡ seat.old.me.1) }
-    ensures both { seat.new.me.0.ends ≡ merged seat.old.me.0.ends other.me.0.ends }
+    ensures both { seat.new.me.0.ends ≡ merged_ends seat.old.me.0.ends other.me.0.ends }
     ensures early { IsEarly seat.old.me.0.ends → IsEarly other.me.0.ends → IsEarly seat.new.me.0.ends }
 {
     cells.join_seat::<Both>(seat, other);

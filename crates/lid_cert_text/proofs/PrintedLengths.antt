@@ -12,7 +12,7 @@ use Rattle.lid_cert.specs.Certificates.{AreLists}
 use Rattle.lid_base_lines.specs.Texts.{Words, line_text, lines_text, spaced}
 use Rattle.lid_base_lines.proofs.Pieces.{line_text_cons, lines_text_append, spaced_push}
 use Rattle.lid_cert_text.specs.Written.{via_word, node_words, node_rows, count_words, ratio_words, cycle_words, part_lines, parts_lines, header_words, cert_text, IsReadBack}
-use Rattle.lid_cert_text.specs.Printed.{IsSmall, IsSmallVia, IsPartSmall, IsPartFull, IsPartPrintable, room, PrintedIsShort, RoomIsSmall}
+use Rattle.lid_cert_text.specs.Printed.{IsSmall, IsSmallVia, IsPartSmall, IsPartFull, IsPartPrintable, bytes_needed, PrintedIsShort, RoomIsSmall}
 use Rattle.lid_cert_text.proofs.PrintedLines.{rows_push}
 use Rattle.lid_cert_text.proofs.ReadBack.{printed_is_read_back}
 
@@ -64,7 +64,7 @@ module _ (part : Part) (p : IsPartPrintable part) (few : length part.nodes < 2 ^
       let last = node_length n (omega arith) in
       omega (arith, before, last, ap length (rows_push part n), length-append (lines_text (node_rows part n)) (line_text (node_words part n)))
 
-  part_length : length (lines_text (part_lines part)) ≤ room part
+  part_length : length (lines_text (part_lines part)) ≤ bytes_needed part
   part_length =
       let count = line_text (count_words part) in
       let ratio = line_text (ratio_words part) in
@@ -80,12 +80,12 @@ module _ (part : Part) (p : IsPartPrintable part) (few : length part.nodes < 2 ^
       let third : length walk ≤ 6 + 11 * length part.cycle = omega (arith, edges, line_length (codes "cycle") (map decimal part.cycle)) in
       omega (arith, first, second, third, rows, length-append count (ratio ++ (walk ++ nodes)), length-append ratio (walk ++ nodes), length-append walk nodes)
 
-parts_length : (parts : List Part) → AllByRecursion IsPartPrintable parts → AllByRecursion (λ part. IsSmall (length part.nodes)) parts → length (lines_text (parts_lines parts)) ≤ sum_by room parts
+parts_length : (parts : List Part) → AllByRecursion IsPartPrintable parts → AllByRecursion (λ part. IsSmall (length part.nodes)) parts → length (lines_text (parts_lines parts)) ≤ sum_by bytes_needed parts
 parts_length [] h few = omega arith
 parts_length (part ∷ parts) h few =
     let first = part_length part h.0 few.0 in
     let later = parts_length parts h.1 few.1 in
-    let whole = sum_by-cons room part parts in
+    let whole = sum_by-cons bytes_needed part parts in
     omega (arith, first, later, whole, ap length (lines_text_append (part_lines part) (parts_lines parts)), length-append (lines_text (part_lines part)) (lines_text (parts_lines parts)))
 
 header_length : length (line_text header_words) ≡ 11
@@ -98,13 +98,13 @@ printed_is_short cert parts few =
     let all = parts_length cert.parts (recursion_from_All IsPartPrintable cert.parts parts) (recursion_from_All (λ part. IsSmall (length part.nodes)) cert.parts few) in
     omega (arith, all, length-append (line_text header_words) (lines_text (parts_lines cert.parts)), header_length)
 
-rooms : (parts : List Part) → AllByRecursion (λ part. 1 ≤ length part.nodes) parts → AllByRecursion (λ part. length part.cycle ≤ length part.nodes) parts → sum_by room parts ≤ 139 * sum_by (λ part. length part.nodes) parts
+rooms : (parts : List Part) → AllByRecursion (λ part. 1 ≤ length part.nodes) parts → AllByRecursion (λ part. length part.cycle ≤ length part.nodes) parts → sum_by bytes_needed parts ≤ 139 * sum_by (λ part. length part.nodes) parts
 rooms [] some short = omega arith
 rooms (part ∷ parts) some short =
     let later = rooms parts some.1 short.1 in
     let first = some.0 in
     let walk = short.0 in
-    let whole = sum_by-cons room part parts in
+    let whole = sum_by-cons bytes_needed part parts in
     let nodes = sum_by-cons (λ (x : Part). length x.nodes) part parts in
     omega (arith, later, first, walk, whole, nodes)
 
@@ -119,5 +119,5 @@ module _ (cert : Cert) (lists : All AreLists cert.parts) (small : All IsPartSmal
   pub read_back : length (cert_text cert) ≤ 16777216 → IsReadBack cert
   read_back short = printed_is_read_back cert printable short
 
-  pub is_short : All (λ part. IsSmall (length part.nodes)) cert.parts → length (cert_text cert) ≤ 11 + sum_by room cert.parts
+  pub is_short : All (λ part. IsSmall (length part.nodes)) cert.parts → length (cert_text cert) ≤ 11 + sum_by bytes_needed cert.parts
   is_short few = printed_is_short cert printable few

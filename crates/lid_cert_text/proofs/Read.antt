@@ -9,9 +9,9 @@ use Rattle.lid_cert.specs.Certificates.{AreLists, IsPartInRange}
 use Rattle.lid_base.specs.Numbers.{value_below}
 use Rattle.lid_base.proofs.Numbers.{value_below_less}
 use Rattle.lid_base.specs.Words.{word_at, begins_with}
-use Rattle.lid_cert_text.specs.Texts.{via_value, words_at, node_lines, column, part_of, parts_of}
+use Rattle.lid_cert_text.specs.Texts.{via_value, words_at, node_lines, values_at, part_of, parts_of}
 
-column_below : (limit i : ℕ) (ls : List Line) → 0 < limit → All (λ n. n < limit) (column limit i ls)
+column_below : (limit i : ℕ) (ls : List Line) → 0 < limit → All (λ n. n < limit) (values_at limit i ls)
 column_below limit i ls some =
     All-map (λ n. n < limit) (λ (l : Line). value_below limit (word_at l.words i)) ls (λ k d h. value_below_less limit _ some)
 
@@ -23,7 +23,7 @@ part_of_range ls = record {
   lead = column_below (2 ^ 62) 3 (node_lines (drop 2 ls)) (omega arith);
 }
 
-column_length : (limit i : ℕ) (ls : List Line) → length (column limit i ls) ≡ length ls
+column_length : (limit i : ℕ) (ls : List Line) → length (values_at limit i ls) ≡ length ls
 column_length limit i ls = length-map ls _
 
 part_of_lists : (ls : List Line) → AreLists (part_of ls)

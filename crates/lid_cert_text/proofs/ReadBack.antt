@@ -17,7 +17,7 @@ use Rattle.lid_cert_text.specs.declared.stage.Stage.TheVariants.{Header, Between
 use Rattle.lid_base.specs.Numbers.{is_below, value_below}
 use Rattle.lid_base.specs.Words.{word_at, begins_with}
 use Rattle.lid_cert_text.specs.Written.{built, node_words, node_rows, count_words, ratio_words, cycle_words, part_lines, header_words, parts_lines, cert_lines, cert_text}
-use Rattle.lid_cert_text.specs.Texts.{via_value, is_part_line, is_ratio_line, is_cycle_line, is_node_line, line_at_fault, at_line, fault_in, cert_fault, column, node_lines, part_of, parts_of, cert_of}
+use Rattle.lid_cert_text.specs.Texts.{via_value, is_part_line, is_ratio_line, is_cycle_line, is_node_line, line_at_fault, at_line, fault_in, cert_fault, values_at, node_lines, part_of, parts_of, cert_of}
 use Rattle.lid_cert_text.specs.Printed.{IsSmall, IsPartPrintable, PrintedIsReadBack}
 use Rattle.lid_base.proofs.Numbers.{value_back, is_number}
 use Rattle.lid_base_lines.specs.Texts.{Words, line_text, lines_text, numbered_lines}
@@ -184,14 +184,14 @@ part_back part p few n parts =
     let lines = numbered_lines (n + 1 + 1) (node_rows part (length part.nodes)) in
     let ends : node_lines (numbered_lines (n + 1 + 1) (node_rows part (length part.nodes) ++ parts_lines parts)) ≡ lines = rows_end (node_rows part (length part.nodes)) (n + 1 + 1) parts (rows part p few) in
     same_part _ part
-    (ap (column (2 ^ 32) 1) ends ∙ column_back (λ words. value_below (2 ^ 32) (word_at words 1)) (node_words part) part.nodes 0 count (n + 1 + 1) refl (λ i h. value_back (2 ^ 32) (get_or part.nodes i 0) (p.small.nodes i 0 h) (omega (arith, p.small.nodes i 0 h))))
+    (ap (values_at (2 ^ 32) 1) ends ∙ column_back (λ words. value_below (2 ^ 32) (word_at words 1)) (node_words part) part.nodes 0 count (n + 1 + 1) refl (λ i h. value_back (2 ^ 32) (get_or part.nodes i 0) (p.small.nodes i 0 h) (omega (arith, p.small.nodes i 0 h))))
     (value_back (2 ^ 31) part.p p.full.range.p (omega (arith, p.full.range.p)))
     (value_back (2 ^ 31) part.q p.full.range.q (omega (arith, p.full.range.q)))
     (values_back part.cycle (recursion_from_All IsSmall part.cycle p.small.cycle))
-    (ap (column (2 ^ 62) 2) ends ∙ column_back (λ words. value_below (2 ^ 62) (word_at words 2)) (node_words part) part.lag 0 count (n + 1 + 1) p.lists.lag (λ i h. let less = p.full.range.lag i 0 (omega (arith, p.lists.lag)) in value_back (2 ^ 62) (get_or part.lag i 0) less (omega (arith, less))))
-    (ap (column (2 ^ 62) 3) ends ∙ column_back (λ words. value_below (2 ^ 62) (word_at words 3)) (node_words part) part.lead 0 count (n + 1 + 1) p.lists.lead (λ i h. let less = p.full.range.lead i 0 (omega (arith, p.lists.lead)) in value_back (2 ^ 62) (get_or part.lead i 0) less (omega (arith, less))))
+    (ap (values_at (2 ^ 62) 2) ends ∙ column_back (λ words. value_below (2 ^ 62) (word_at words 2)) (node_words part) part.lag 0 count (n + 1 + 1) p.lists.lag (λ i h. let less = p.full.range.lag i 0 (omega (arith, p.lists.lag)) in value_back (2 ^ 62) (get_or part.lag i 0) less (omega (arith, less))))
+    (ap (values_at (2 ^ 62) 3) ends ∙ column_back (λ words. value_below (2 ^ 62) (word_at words 3)) (node_words part) part.lead 0 count (n + 1 + 1) p.lists.lead (λ i h. let less = p.full.range.lead i 0 (omega (arith, p.lists.lead)) in value_back (2 ^ 62) (get_or part.lead i 0) less (omega (arith, less))))
     (ap (map (λ l. via_value (word_at l.words 5))) ends ∙ column_back (λ words. via_value (word_at words 5)) (node_words part) part.via None count (n + 1 + 1) p.lists.via (λ i h. via_back (get_or part.via i None) (p.small.via i None (omega (arith, p.lists.via)))))
-    (ap (column (2 ^ 32) 4) ends ∙ column_back (λ words. value_below (2 ^ 32) (word_at words 4)) (node_words part) part.depth 0 count (n + 1 + 1) p.lists.depth (λ i h. let less = p.small.depth i 0 (omega (arith, p.lists.depth)) in value_back (2 ^ 32) (get_or part.depth i 0) less (omega (arith, less))))
+    (ap (values_at (2 ^ 32) 4) ends ∙ column_back (λ words. value_below (2 ^ 32) (word_at words 4)) (node_words part) part.depth 0 count (n + 1 + 1) p.lists.depth (λ i h. let less = p.small.depth i 0 (omega (arith, p.lists.depth)) in value_back (2 ^ 32) (get_or part.depth i 0) less (omega (arith, less))))
 
 parts_back : (parts : List Part) (n : ℕ) → AllByRecursion IsPartPrintable parts → length (lines_text (parts_lines parts)) < 2 ^ 32 → parts_of (numbered_lines n (parts_lines parts)) ≡ parts
 parts_back [] n h short = refl

@@ -36,8 +36,8 @@ abbrev pub PrintedIsReadBack : Type 0
 PrintedIsReadBack = (cert : Cert) → All IsPartPrintable cert.parts → length (cert_text cert) ≤ 16777216 → IsReadBack cert
 
 -- 50 bytes for the first three lines of a part, 11 for each edge of its walk and 78 for each transition
-abbrev pub room : Part → ℕ
-room part = 50 + (11 * length part.cycle + 78 * length part.nodes)
+abbrev pub bytes_needed : Part → ℕ
+bytes_needed part = 50 + (11 * length part.cycle + 78 * length part.nodes)
 
 -- how long the text of a certificate may be
 abbrev pub PrintedIsShort : Type 0
@@ -45,7 +45,7 @@ PrintedIsShort =
     (cert : Cert)
     → All IsPartPrintable cert.parts
     → All (λ part. IsSmall (length part.nodes)) cert.parts
-    → length (cert_text cert) ≤ 11 + sum_by room cert.parts
+    → length (cert_text cert) ≤ 11 + sum_by bytes_needed cert.parts
 
 -- where no walk has more edges than its part has transitions, 139 bytes for each transition are enough room
 abbrev pub RoomIsSmall : Type 0
@@ -53,4 +53,4 @@ RoomIsSmall =
     (cert : Cert)
     → All (λ part. 1 ≤ length part.nodes) cert.parts
     → All (λ part. length part.cycle ≤ length part.nodes) cert.parts
-    → sum_by room cert.parts ≤ 139 * sum_by (λ part. length part.nodes) cert.parts
+    → sum_by bytes_needed cert.parts ≤ 139 * sum_by (λ part. length part.nodes) cert.parts

@@ -107,8 +107,8 @@ node_lines [] = []
 node_lines (l ∷ ls) = if begins_with (codes "node") l.words then l ∷ node_lines ls else []
 
 -- the numbers at a place of each line
-abbrev pub column : ℕ → ℕ → List Line → List ℕ
-column limit i ls = map (λ l. value_below limit (word_at l.words i)) ls
+abbrev pub values_at : ℕ → ℕ → List Line → List ℕ
+values_at limit i ls = map (λ l. value_below limit (word_at l.words i)) ls
 
 abbrev pub via_value : List ℕ → Option ℕ
 via_value word = number_below (2 ^ 32) word
@@ -116,14 +116,14 @@ via_value word = number_below (2 ^ 32) word
 -- the part whose `part` line stands before these lines: a `ratio` line, a `cycle` line and `node` lines
 abbrev pub part_of : List Line → Part
 part_of ls = record {
-  nodes = column (2 ^ 32) 1 (node_lines (drop 2 ls));
+  nodes = values_at (2 ^ 32) 1 (node_lines (drop 2 ls));
   p = value_below (2 ^ 31) (word_at (words_at ls 0) 1);
   q = value_below (2 ^ 31) (word_at (words_at ls 0) 2);
   cycle = map (value_below (2 ^ 32)) (drop 1 (words_at ls 1));
-  lag = column (2 ^ 62) 2 (node_lines (drop 2 ls));
-  lead = column (2 ^ 62) 3 (node_lines (drop 2 ls));
+  lag = values_at (2 ^ 62) 2 (node_lines (drop 2 ls));
+  lead = values_at (2 ^ 62) 3 (node_lines (drop 2 ls));
   via = map (λ l. via_value (word_at l.words 5)) (node_lines (drop 2 ls));
-  depth = column (2 ^ 32) 4 (node_lines (drop 2 ls));
+  depth = values_at (2 ^ 32) 4 (node_lines (drop 2 ls));
 }
 
 -- a part for each `part` line

@@ -6,7 +6,7 @@ ghost use Rattle.std.specs.List.{All, sum_by};
 ghost use Rattle.lid_base.specs.Lists.{Keeps};
 ghost use Rattle.lid_cert.specs.Certificates.{AreLists};
 ghost use Rattle.lid_base_lines.specs.Texts.{line_text, lines_text, spaced};
-ghost use Rattle.lid_cert_text.specs.Printed.{IsSmall, IsPartFull, room};
+ghost use Rattle.lid_cert_text.specs.Printed.{IsSmall, IsPartFull, bytes_needed};
 ghost use Rattle.lid_cert_text.specs.Written.{IsReadBack, cert_text, parts_lines, part_lines, cycle_words, node_rows, node_words, node_numbers, via_word};
 
 use crate::ranges::are_parts_small;
@@ -127,7 +127,7 @@ pub fn print_cert(cert: &Cert, into: &mut Vec<u8>) -> Result<(), AllocError>
     ensures err { OnErr result (into.new.items ≡ into.old.items) }
     ensures back { All IsPartFull cert.now.parts → length (cert_text cert.now) ≤ 16777216 → IsReadBack cert.now }
     ensures short { All IsPartFull cert.now.parts → All (λ part. IsSmall (length part.nodes)) cert.now.parts
-        → length (cert_text cert.now) ≤ 11 + sum_by room cert.now.parts }
+        → length (cert_text cert.now) ≤ 11 + sum_by bytes_needed cert.now.parts }
 {
     are_parts_small(cert.parts.as_slice());
     cut_back(into.len(), append_text(cert, into), into)

@@ -19,7 +19,7 @@ use Rattle.lid_design.specs.Models.{firsts, nets, port_drivers, inner_drivers, d
 use Rattle.lid_check_names.proofs.Lists.{count_append}
 use Rattle.lid_check_hierarchy.proofs.Numbers.{firsts_distinct}
 use Rattle.lid_check_drivers.specs.Judged.{IsJudged}
-use Rattle.lid_check_drivers.specs.Locals.{inputs_from, inner_locals, locals, of_net, driver_at_path}
+use Rattle.lid_check_drivers.specs.Locals.{inputs_from, inner_locals, locals, values_of, driver_at_path}
 use Rattle.lid_check_drivers.proofs.Names.{to_among, count-cons, count_none}
 use Rattle.lid_check_drivers.proofs.Clocking.{model_at_number}
 use Rattle.lid_check_drivers.proofs.Locals.{net_of, of_net_count, locals_named, inner_named, inputs_named, inputs_seen}
@@ -74,7 +74,7 @@ once_distinct (x ∷ xs) once = (
 pub once_firsts : (xs : List (List ℕ)) → IsOnce xs → firsts xs ≡ xs
 once_firsts xs once = firsts_distinct xs (once_distinct xs once)
 
-pub among_of_net : {V : Type 0} (net : List ℕ) (ps : List (List ℕ × V)) (p : List ℕ × V) → Among p ps → p.0 ≡ net → Among p.1 (of_net net ps)
+pub among_of_net : {V : Type 0} (net : List ℕ) (ps : List (List ℕ × V)) (p : List ℕ × V) → Among p ps → p.0 ≡ net → Among p.1 (values_of net ps)
 among_of_net {V} net ps p is same =
     among_flat (λ q. cond (bytes_eq q.0 net) (q.1 ∷ []) []) p p.1 ps is (subst (λ (b : Bool). Among p.1 (cond b (p.1 ∷ []) [])) (sym (bytes_same p.0 net same)) (inl refl))
 
@@ -85,22 +85,22 @@ module _ (d : Design) (judged : IsJudged d) where
     port_none [] net none =
         let inputs = inputs_from 0 (data_inputs d m) in
         let whole : length (port_at d m [] net) ≡ count_by (bytes_eq net) (data_inputs d m) =
-        ap length (inputs_seen net 0 (data_inputs d m)) ∙ length-map (of_net net inputs) (driver_at_path []) ∙ of_net_count net inputs ∙ ap (count_by (bytes_eq net)) (inputs_named 0 (data_inputs d m)) in
+        ap length (inputs_seen net 0 (data_inputs d m)) ∙ length-map (values_of net inputs) (driver_at_path []) ∙ of_net_count net inputs ∙ ap (count_by (bytes_eq net)) (inputs_named 0 (data_inputs d m)) in
         let fewer = inputs_fewer d m net in
         let empty = count_none net m.inputs none in
         omega arith
     port_none (i ∷ path) net none = ap (λ (b : Bool). length (cond b (option_map_or (actuals_of path net) (option_and_then (λ (m : Model). slice_get m.insts i) (model_at d path)) []) [])) none
 
-    driven_spot : (path net : List ℕ) → 0 < length (port_at d m path net ++ map (driver_at_path path) (of_net net (inner_locals d m))) → Spot m net
+    driven_spot : (path net : List ℕ) → 0 < length (port_at d m path net ++ map (driver_at_path path) (values_of net (inner_locals d m))) → Spot m net
     driven_spot path net some = by (is_among net m.inputs) refl
       where
         by : (b : Bool) → is_among net m.inputs ≡ b → Spot m net
         by true e = spot_input (to_among net m.inputs e)
         by false e =
             let port = port_none path net e in
-            let both = length-append (port_at d m path net) (map (driver_at_path path) (of_net net (inner_locals d m))) in
-            let inner : length (map (driver_at_path path) (of_net net (inner_locals d m))) ≡ count_by (bytes_eq net) (inner_drivers d m) =
-            length-map (of_net net (inner_locals d m)) (driver_at_path path) ∙ of_net_count net (inner_locals d m) ∙ ap (count_by (bytes_eq net)) (inner_named d m) in
+            let both = length-append (port_at d m path net) (map (driver_at_path path) (values_of net (inner_locals d m))) in
+            let inner : length (map (driver_at_path path) (values_of net (inner_locals d m))) ≡ count_by (bytes_eq net) (inner_drivers d m) =
+            length-map (values_of net (inner_locals d m)) (driver_at_path path) ∙ of_net_count net (inner_locals d m) ∙ ap (count_by (bytes_eq net)) (inner_named d m) in
             let least : 0 < count_by (bytes_eq net) (inner_drivers d m) = omega arith in
             inner_spot d m net (to_among net (inner_drivers d m) (counted net (inner_drivers d m) least))
 
@@ -152,6 +152,6 @@ module _ (d : Design) (judged : IsJudged d) where
           by true clock = absurd (let none : length (option_map_or (drivers_in d c.path c.net) (model_at d c.path) []) ≡ 0 = ap (λ (o : Option Model). length (option_map_or (drivers_in d c.path c.net) o [])) e ∙ ap (λ (b : Bool). length (cond b [] ((port_at d m c.path c.net ++ flat_map (cell_at c.path c.net) m.cells) ++ flat_map (output_at d c.path c.net) (enumerate_from 0 m.insts)))) clock in omega arith)
           by false free =
               let whole = drivers_at d judged found.0 (c.path, found.1) m found.2 c.path found.1 c.net free in
-              let least : 0 < length (port_at d m c.path c.net ++ map (driver_at_path c.path) (of_net c.net (inner_locals d m))) = subst (λ (ss : List (Driver Column)). 0 < length ss) whole some in
+              let least : 0 < length (port_at d m c.path c.net ++ map (driver_at_path c.path) (values_of c.net (inner_locals d m))) = subst (λ (ss : List (Driver Column)). 0 < length ss) whole some in
               let spot = driven_spot found.0 (c.path, found.1) m found.2 c.path c.net least in
               record { number = found.0; leads = found.1; model = m; here = found.2; net = net_from d judged found.0 (c.path, found.1) m found.2 c.net spot free }

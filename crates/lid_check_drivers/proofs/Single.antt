@@ -20,7 +20,7 @@ use Rattle.lid_design.specs.Network.{Driver, from_connection}
 use Rattle.lid_design.specs.Columns.{Column, column, is_among, model_named, model_at, is_clock, data_inputs, first_bit, cell_at, output_at, actuals_of, port_at, drivers_in, drivers}
 use Rattle.lid_design.specs.Models.{occurrences, nets, port_drivers, inner_drivers, driver_names, read_by, read_names, actuals_bound_to, number_from, IsReached, formals, formal_of}
 use Rattle.lid_check_names.proofs.Lists.{is_among_append, count_append}
-use Rattle.lid_check_drivers.specs.Locals.{Local, local_input, local_latch, local_cover, local_connection, NetLocal, inputs_from, local_of, output_of, outputs_of, inner_locals, locals, of_net, driver_at_path, driver_in, bound_pairs, first_name_of, actual_for}
+use Rattle.lid_check_drivers.specs.Locals.{Local, local_input, local_latch, local_cover, local_connection, NetLocal, inputs_from, local_of, output_driver, outputs_of, inner_locals, locals, values_of, driver_at_path, driver_in, bound_pairs, first_name_of, actual_for}
 use Rattle.lid_check_drivers.specs.Judged.{IsJudged}
 use Rattle.lid_check_drivers.proofs.Names.{to_among, from_among, count-cons, count_some}
 use Rattle.lid_check_drivers.proofs.Passing.{IsSoundInst}
@@ -57,7 +57,7 @@ unfolding data_inputs
 inputs_fewer d m net = count_filter (λ net. not (is_clock d m net)) net m.inputs
 
 -- what stands beside a name is one of a list
-pub of_net_among : {V : Type 0} (net : List ℕ) (ps : List (List ℕ × V)) (v : V) → Among v (of_net net ps) → Among (net, v) ps
+pub of_net_among : {V : Type 0} (net : List ℕ) (ps : List (List ℕ × V)) (v : V) → Among v (values_of net ps) → Among (net, v) ps
 of_net_among {V} net ps v among = by found.0 (bytes_eq found.0.0 net) refl found.1 found.2
   where
     found : (p : List ℕ × V) × Among p ps × Among v (cond (bytes_eq p.0 net) (p.1 ∷ []) [])
@@ -105,9 +105,9 @@ no_input d m net j among = by (among_append {A = NetLocal} (net, local_input j) 
     of_bind i b true (inr none) = none
     of_bind i b false none = none
 
-    of_model : (p : ℕ × Inst) (o : Option Model) → Among {A = NetLocal} (net, local_input j) (option_map_or (λ m. flat_map (output_of m.outputs p.0) p.1.binds) o []) → ⊥
+    of_model : (p : ℕ × Inst) (o : Option Model) → Among {A = NetLocal} (net, local_input j) (option_map_or (λ m. flat_map (output_driver m.outputs p.0) p.1.binds) o []) → ⊥
     of_model p None none = none
-    of_model p (Some sub) among = let found = flat_among (output_of sub.outputs p.0) (net, local_input j) p.1.binds among in of_bind p.0 found.0 (is_among found.0.formal sub.outputs) found.2
+    of_model p (Some sub) among = let found = flat_among (output_driver sub.outputs p.0) (net, local_input j) p.1.binds among in of_bind p.0 found.0 (is_among found.0.formal sub.outputs) found.2
 
     by : Among {A = NetLocal} (net, local_input j) (map local_of m.cells) ⊎ Among {A = NetLocal} (net, local_input j) (flat_map (outputs_of d) (enumerate_from 0 m.insts)) → ⊥
     by (inl cells) = let found = map_among local_of (net, local_input j) m.cells cells in of_cell found.0 found.2
@@ -117,14 +117,14 @@ pairs_named : (binds : List Bind) → map net_of (map (λ (b : Bind). (b.formal,
 pairs_named [] = refl
 pairs_named (b ∷ binds) = ap (λ (ns : List (List ℕ)). b.formal ∷ ns) (pairs_named binds)
 
-actuals_seen : (path net : List ℕ) (binds : List Bind) → flat_map (λ (b : Bind). cond (bytes_eq b.formal net) (from_connection (column path b.actual) ∷ []) []) binds ≡ map (λ actual. from_connection (column path actual)) (of_net net (map (λ (b : Bind). (b.formal, b.actual)) binds))
+actuals_seen : (path net : List ℕ) (binds : List Bind) → flat_map (λ (b : Bind). cond (bytes_eq b.formal net) (from_connection (column path b.actual) ∷ []) []) binds ≡ map (λ actual. from_connection (column path actual)) (values_of net (map (λ (b : Bind). (b.formal, b.actual)) binds))
 actuals_seen path net [] = refl
 actuals_seen path net (b ∷ binds) =
     ap (λ (ss : List (Driver Column)). cond (bytes_eq b.formal net) (from_connection (column path b.actual) ∷ []) [] ++ ss) (actuals_seen path net binds)
     ∙ by (bytes_eq b.formal net)
   where
     later : List (List ℕ)
-    later = of_net net (map (λ (b : Bind). (b.formal, b.actual)) binds)
+    later = values_of net (map (λ (b : Bind). (b.formal, b.actual)) binds)
 
     by : (c : Bool) → cond c (from_connection (column path b.actual) ∷ []) [] ++ map (λ actual. from_connection (column path actual)) later ≡ map (λ actual. from_connection (column path actual)) (cond c (b.actual ∷ []) [] ++ later)
     by true = refl
@@ -139,9 +139,9 @@ module _ (d : Design) (judged : IsJudged d) where
     wired_output : (i : ℕ) (formal : List ℕ) (inst : Inst) → slice_get m.insts i ≡ Some inst → (sub : Sub d inst) → Among formal (nets d sub.model) → IsWiredLocal m net (local_connection i formal)
 
   module _ (k : ℕ) (reached : IsReached d k) (m : Model) (here : slice_get d.models k ≡ Some m) where
-    pub exactly_one : (net : List ℕ) → Among net (nets d m) → (l : Local (List ℕ)) × (of_net net (locals d m) ≡ l ∷ [])
+    pub exactly_one : (net : List ℕ) → Among net (nets d m) → (l : Local (List ℕ)) × (values_of net (locals d m) ≡ l ∷ [])
     unfolding driver_names
-    exactly_one net among = single (of_net net (locals d m)) (by (or_cases (is_among net (port_drivers m)) (is_among net (inner_drivers d m)) (sym (is_among_append net (port_drivers m) (inner_drivers d m)) ∙ driven_net d judged k reached m here net free.0 free.1)))
+    exactly_one net among = single (values_of net (locals d m)) (by (or_cases (is_among net (port_drivers m)) (is_among net (inner_drivers d m)) (sym (is_among_append net (port_drivers m) (inner_drivers d m)) ∙ driven_net d judged k reached m here net free.0 free.1)))
       where
         free : Among net (occurrences m) × (is_clock d m net ≡ false)
         free = net_free d judged k reached m here net among
@@ -152,7 +152,7 @@ module _ (d : Design) (judged : IsJudged d) where
         count : List (List ℕ) → ℕ
         count ns = count_by (bytes_eq net) ns
 
-        total : length (of_net net (locals d m)) ≡ count (data_inputs d m) + count (inner_drivers d m)
+        total : length (values_of net (locals d m)) ≡ count (data_inputs d m) + count (inner_drivers d m)
         total = of_net_count net (locals d m) ∙ ap (count_by (bytes_eq net)) (locals_named d m) ∙ count_append net (data_inputs d m) (inner_drivers d m)
 
         least : count (data_inputs d m) ≤ count m.inputs
@@ -165,17 +165,17 @@ module _ (d : Design) (judged : IsJudged d) where
             let b = count_append net m.inputs clocks in
             omega arith
 
-        at_least : 1 ≤ count (data_inputs d m) ⊎ 1 ≤ count (inner_drivers d m) → length (of_net net (locals d m)) ≡ 1
+        at_least : 1 ≤ count (data_inputs d m) ⊎ 1 ≤ count (inner_drivers d m) → length (values_of net (locals d m)) ≡ 1
         at_least (inl some) = let a = total in let b = least in let c = most in omega arith
         at_least (inr some) = let a = total in let b = least in let c = most in omega arith
 
-        from_port : (is_among net m.inputs ≡ true) ⊎ (is_among net clocks ≡ true) → length (of_net net (locals d m)) ≡ 1
+        from_port : (is_among net m.inputs ≡ true) ⊎ (is_among net clocks ≡ true) → length (values_of net (locals d m)) ≡ 1
         from_port (inl is) = at_least (inl (count_some net (data_inputs d m) (from_among net (data_inputs d m) (data_input d m net free.1 (to_among net m.inputs is)))))
         from_port (inr is) =
             let clock = filter_among (λ net. not (is_among net m.inputs)) net m.clocks (to_among net clocks is) in
             clash (is_clock d m net) (own_clock d m net (or_left (is_among net m.clocks) _ (from_among net m.clocks clock.0))) free.1
 
-        by : (is_among net (port_drivers m) ≡ true) ⊎ (is_among net (inner_drivers d m) ≡ true) → length (of_net net (locals d m)) ≡ 1
+        by : (is_among net (port_drivers m) ≡ true) ⊎ (is_among net (inner_drivers d m) ≡ true) → length (values_of net (locals d m)) ≡ 1
         by (inl port) = from_port (or_cases (is_among net m.inputs) (is_among net clocks) (sym (is_among_append net m.inputs clocks) ∙ port))
         by (inr inner) = at_least (inr (count_some net (inner_drivers d m) inner))
 
@@ -204,7 +204,7 @@ module _ (d : Design) (judged : IsJudged d) where
         of_inst : (p : ℕ × Inst) → slice_get m.insts p.0 ≡ Some p.1 → Among {A = NetLocal} (net, l) (outputs_of d p) → IsWiredLocal m net l
         of_inst p at among =
             let sub = sub_of d judged k reached m here p.0 p.1 at in
-            let found = flat_among (output_of sub.model.outputs p.0) (net, l) p.1.binds (subst (λ (o : Option Model). Among {A = NetLocal} (net, l) (option_map_or (λ m. flat_map (output_of m.outputs p.0) p.1.binds) o [])) sub.named among) in
+            let found = flat_among (output_driver sub.model.outputs p.0) (net, l) p.1.binds (subst (λ (o : Option Model). Among {A = NetLocal} (net, l) (option_map_or (λ m. flat_map (output_driver m.outputs p.0) p.1.binds) o [])) sub.named among) in
             of_bind p at sub found.0 (is_among found.0.formal sub.model.outputs) refl found.2
 
         of_inner : Among {A = NetLocal} (net, l) (map local_of m.cells) ⊎ Among {A = NetLocal} (net, l) (flat_map (outputs_of d) (enumerate_from 0 m.insts)) → IsWiredLocal m net l
@@ -221,7 +221,7 @@ module _ (d : Design) (judged : IsJudged d) where
         by (inr inner) = of_inner (among_append (net, l) (map local_of m.cells) (flat_map (outputs_of d) (enumerate_from 0 m.insts)) inner)
 
     -- what drives a column
-    pub drivers_at : (path : List ℕ) → number_from d d.root path ≡ Some k → (net : List ℕ) → is_clock d m net ≡ false → drivers d (column path net) ≡ port_at d m path net ++ map (driver_at_path path) (of_net net (inner_locals d m))
+    pub drivers_at : (path : List ℕ) → number_from d d.root path ≡ Some k → (net : List ℕ) → is_clock d m net ≡ false → drivers d (column path net) ≡ port_at d m path net ++ map (driver_at_path path) (values_of net (inner_locals d m))
     unfolding drivers
     drivers_at path leads net free =
         ap (λ (o : Option Model). option_map_or (drivers_in d path net) o []) (model_at_number d path ∙ ap (option_and_then (slice_get d.models)) leads ∙ here)
@@ -230,12 +230,12 @@ module _ (d : Design) (judged : IsJudged d) where
         ∙ ap (λ (ss : List (Driver Column)). port_at d m path net ++ ss) (inner_seen d path net m)
 
     -- at the root
-    pub root_driven : number_from d d.root [] ≡ Some k → (net : List ℕ) → Among net (nets d m) → (l : Local (List ℕ)) → of_net net (locals d m) ≡ l ∷ [] → drivers d (column [] net) ≡ driver_at_path [] l ∷ []
+    pub root_driven : number_from d d.root [] ≡ Some k → (net : List ℕ) → Among net (nets d m) → (l : Local (List ℕ)) → values_of net (locals d m) ≡ l ∷ [] → drivers d (column [] net) ≡ driver_at_path [] l ∷ []
     unfolding locals
     root_driven leads net among l one =
         let free = net_free d judged k reached m here net among in
-        let inputs = of_net net (inputs_from 0 (data_inputs d m)) in
-        let inner = of_net net (inner_locals d m) in
+        let inputs = values_of net (inputs_from 0 (data_inputs d m)) in
+        let inner = values_of net (inner_locals d m) in
         drivers_at [] leads net free.1
         ∙ ap (λ (ss : List (Driver Column)). ss ++ map (driver_at_path []) inner) (inputs_seen net 0 (data_inputs d m))
         ∙ sym (map-append (driver_at_path []) inputs inner)
@@ -246,8 +246,8 @@ module _ (d : Design) (judged : IsJudged d) where
     as_told : IsSoundInst d sub.model inst
     as_told = (sound d judged k reached m here).insts i inst sub.model at sub.named
 
-    bound_once : (formal : List ℕ) → Among formal (data_inputs d sub.model) → of_net formal (bound_pairs inst) ≡ actual_for inst formal ∷ []
-    bound_once formal input = by (single (of_net formal (bound_pairs inst)) total)
+    bound_once : (formal : List ℕ) → Among formal (data_inputs d sub.model) → values_of formal (bound_pairs inst) ≡ actual_for inst formal ∷ []
+    bound_once formal input = by (single (values_of formal (bound_pairs inst)) total)
       where
         count : ℕ
         count = count_by (bytes_eq formal) (formals inst)
@@ -255,14 +255,14 @@ module _ (d : Design) (judged : IsJudged d) where
         bound : is_among formal (formals inst) ≡ true
         bound = as_told.bound formal input
 
-        total : length (of_net formal (bound_pairs inst)) ≡ 1
+        total : length (values_of formal (bound_pairs inst)) ≡ 1
         total =
-            let whole : length (of_net formal (bound_pairs inst)) ≡ count = of_net_count formal (bound_pairs inst) ∙ ap (count_by (bytes_eq formal)) (pairs_named inst.binds) in
+            let whole : length (values_of formal (bound_pairs inst)) ≡ count = of_net_count formal (bound_pairs inst) ∙ ap (count_by (bytes_eq formal)) (pairs_named inst.binds) in
             let least : 1 ≤ count = count_some formal (formals inst) bound in
             let most : count ≤ 1 = ltb-false 1 count (as_told.once formal (to_among formal (formals inst) bound)) in
             omega arith
 
-        by : (a : List ℕ) × (of_net formal (bound_pairs inst) ≡ a ∷ []) → of_net formal (bound_pairs inst) ≡ actual_for inst formal ∷ []
+        by : (a : List ℕ) × (values_of formal (bound_pairs inst) ≡ a ∷ []) → values_of formal (bound_pairs inst) ≡ actual_for inst formal ∷ []
         by (a, e) = e ∙ ap (λ (n : List ℕ). n ∷ []) (sym (ap first_name_of e))
 
     -- it is a net around the instance
@@ -285,15 +285,15 @@ module _ (d : Design) (judged : IsJudged d) where
         read = subst (λ (o : Option Model). Among (actual_for inst formal) (option_map_or (λ m. actuals_bound_to (data_inputs d m) inst.binds) o [])) (sym sub.named) drawn
 
     -- in an instance
-    pub inst_driven : (path : List ℕ) → number_from d d.root path ≡ Some k → number_from d d.root (i ∷ path) ≡ Some sub.number → (net : List ℕ) → Among net (nets d sub.model) → (l : Local (List ℕ)) → of_net net (locals d sub.model) ≡ l ∷ [] → drivers d (column (i ∷ path) net) ≡ driver_in path i inst (data_inputs d sub.model) l ∷ []
+    pub inst_driven : (path : List ℕ) → number_from d d.root path ≡ Some k → number_from d d.root (i ∷ path) ≡ Some sub.number → (net : List ℕ) → Among net (nets d sub.model) → (l : Local (List ℕ)) → values_of net (locals d sub.model) ≡ l ∷ [] → drivers d (column (i ∷ path) net) ≡ driver_in path i inst (data_inputs d sub.model) l ∷ []
     unfolding locals
     inst_driven path leads inner_leads net among l one = by (one_of_two inputs inner l (sym (of_net_append net (inputs_from 0 (data_inputs d sub.model)) (inner_locals d sub.model)) ∙ one))
       where
         inputs : List (Local (List ℕ))
-        inputs = of_net net (inputs_from 0 (data_inputs d sub.model))
+        inputs = values_of net (inputs_from 0 (data_inputs d sub.model))
 
         inner : List (Local (List ℕ))
-        inner = of_net net (inner_locals d sub.model)
+        inner = values_of net (inner_locals d sub.model)
 
         free : is_clock d sub.model net ≡ false
         free = (net_free d judged sub.number sub.reached sub.model sub.there net among).1

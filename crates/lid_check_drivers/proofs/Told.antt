@@ -10,7 +10,7 @@ use Rattle.lid_design.specs.Columns.{Column, column, data_inputs, drivers}
 use Rattle.lid_design.specs.Walks.{IsDriven}
 use Rattle.lid_design.specs.Models.{insts_of, instance_number, number_named, number_from, data_inputs_of}
 use Rattle.lid_check_drivers.specs.Judged.{IsJudged}
-use Rattle.lid_check_drivers.specs.Locals.{Local, locals, of_net, driver_in, inst_at, driver_by_path, IsToldByModel}
+use Rattle.lid_check_drivers.specs.Locals.{Local, locals, values_of, driver_in, inst_at, driver_by_path, IsToldByModel}
 use Rattle.lid_check_drivers.proofs.Clocking.{named_model}
 use Rattle.lid_check_drivers.proofs.Wired.{Sub}
 use Rattle.lid_check_drivers.proofs.Single.{exactly_one, root_driven, inst_driven}
@@ -23,7 +23,7 @@ module _ (d : Design) (judged : IsJudged d) where
     told : driver_by_path d k path l ≡ Some driver
     only : drivers d (column path net) ≡ driver ∷ []
 
-  told_at : (c : Column) (at : NetAt d judged c) (path : List ℕ) → path ≡ c.path → (l : Local (List ℕ)) → of_net c.net (locals d at.model) ≡ l ∷ [] → Told path c.net at.number l
+  told_at : (c : Column) (at : NetAt d judged c) (path : List ℕ) → path ≡ c.path → (l : Local (List ℕ)) → values_of c.net (locals d at.model) ≡ l ∷ [] → Told path c.net at.number l
   unfolding number_from
   told_at c at [] same l one =
       let leads = ap (number_from d d.root) same ∙ at.leads in
@@ -65,7 +65,7 @@ module _ (d : Design) (judged : IsJudged d) where
         number = at.number;
         leads = at.leads;
         local = one.0;
-        alone = ap (λ (o : Option Model). of_net c.net (option_map_or (locals d) o [])) at.here ∙ one.1;
+        alone = ap (λ (o : Option Model). values_of c.net (option_map_or (locals d) o [])) at.here ∙ one.1;
         driver = told.driver;
         told = told.told;
         only = told.only;

@@ -34,11 +34,11 @@ local_of (Names inputs out cover) = (out, local_cover cover inputs)
 local_of (Latch input out kind control init) = (out, local_latch (first_bit init) input)
 
 -- a binding to an output formal drives its actual
-abbrev pub output_of : List (List ℕ) → ℕ → Bind → List NetLocal
-output_of outputs i b = if is_among b.formal outputs then (b.actual, local_connection i b.formal) ∷ [] else []
+abbrev pub output_driver : List (List ℕ) → ℕ → Bind → List NetLocal
+output_driver outputs i b = if is_among b.formal outputs then (b.actual, local_connection i b.formal) ∷ [] else []
 
 abbrev pub outputs_of : Design → ℕ × Inst → List NetLocal
-outputs_of d p = option_map_or (λ m. flat_map (output_of m.outputs p.0) p.1.binds) (model_named d p.1.model) []
+outputs_of d p = option_map_or (λ m. flat_map (output_driver m.outputs p.0) p.1.binds) (model_named d p.1.model) []
 
 -- what cells and instances drive
 abbrev pub inner_locals : Design → Model → List NetLocal
@@ -49,8 +49,8 @@ unfoldable pub locals : Design → Model → List NetLocal
 locals d m = inputs_from 0 (data_inputs d m) ++ inner_locals d m
 
 -- what stands beside one name
-abbrev pub of_net : {V : Type 0} → List ℕ → List (List ℕ × V) → List V
-of_net net ps = flat_map (λ p. if bytes_eq p.0 net then p.1 ∷ [] else []) ps
+abbrev pub values_of : {V : Type 0} → List ℕ → List (List ℕ × V) → List V
+values_of net ps = flat_map (λ p. if bytes_eq p.0 net then p.1 ∷ [] else []) ps
 
 -- what it is outside the model, where inputs, the nets of the model and those of its instances are told
 -- in other words
@@ -75,7 +75,7 @@ first_name_of (name ∷ names) = name
 
 -- the net around an instance that a formal is bound to
 abbrev pub actual_for : Inst → List ℕ → List ℕ
-actual_for inst formal = first_name_of (of_net formal (bound_pairs inst))
+actual_for inst formal = first_name_of (values_of formal (bound_pairs inst))
 
 -- what it is in instance i of the model at a path: an input is the net that it is bound to
 abbrev pub driver_in : List ℕ → ℕ → Inst → List (List ℕ) → Local (List ℕ) → Driver Column
@@ -99,7 +99,7 @@ pub record IsToldByModel (d : Design) (c : Column) : Type 0 where
   pub number : ℕ
   pub leads : number_from d d.root c.path ≡ Some number
   pub local : Local (List ℕ)
-  pub alone : of_net c.net (model_locals d number) ≡ local ∷ []
+  pub alone : values_of c.net (model_locals d number) ≡ local ∷ []
   pub driver : Driver Column
   pub told : driver_by_path d number c.path local ≡ Some driver
   pub only : drivers d c ≡ driver ∷ []

@@ -18,7 +18,7 @@ use Rattle.lid_design.specs.Elaboration.{model_nets}
 use Rattle.lid_check_names.specs.Names.{texts}
 use Rattle.lid_check_hierarchy.proofs.Fixpoints.{find_position}
 use Rattle.lid_check_hierarchy.proofs.Numbers.{bytes_eq_comm}
-use Rattle.lid_check_drivers.specs.Locals.{of_net, first_name_of, actual_for, model_locals}
+use Rattle.lid_check_drivers.specs.Locals.{values_of, first_name_of, actual_for, model_locals}
 use Rattle.lid_check_elab.specs.Parts.{ShowsDrivers, picks_among, places_bound, places_in_inst, IsTemplate, IsPicked, ArePicked}
 use Rattle.lid_check_drivers.specs.Judged.{IsJudged}
 use Rattle.lid_check_elab.specs.declared.driven.Driven.{Driven}
@@ -47,14 +47,14 @@ position_map f p xs =
 abbrev pub actual_in : Option Bind → List ℕ
 actual_in o = option_map_or (λ b. b.actual) o []
 
-first_bound : (formal : List ℕ) (binds : List Bind) → first_name_of (of_net formal (map (λ (b : Bind). (b.formal, b.actual)) binds)) ≡ actual_in (find (λ b. bytes_eq formal b.formal) binds)
+first_bound : (formal : List ℕ) (binds : List Bind) → first_name_of (values_of formal (map (λ (b : Bind). (b.formal, b.actual)) binds)) ≡ actual_in (find (λ b. bytes_eq formal b.formal) binds)
 first_bound formal [] = refl
 first_bound formal (b ∷ binds) =
     ap (λ (c : Bool). first_name_of (cond c (b.actual ∷ []) [] ++ rest)) (bytes_eq_comm b.formal formal)
     ∙ by (bytes_eq formal b.formal) (first_bound formal binds)
   where
     rest : List (List ℕ)
-    rest = of_net formal (map (λ (b : Bind). (b.formal, b.actual)) binds)
+    rest = values_of formal (map (λ (b : Bind). (b.formal, b.actual)) binds)
 
     by : (c : Bool) → first_name_of rest ≡ actual_in (find (λ b. bytes_eq formal b.formal) binds) → first_name_of (cond c (b.actual ∷ []) [] ++ rest) ≡ actual_in (cond c (Some b) (find (λ b. bytes_eq formal b.formal) binds))
     by true later = refl

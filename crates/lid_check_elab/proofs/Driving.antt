@@ -13,7 +13,7 @@ use Rattle.lid_design.specs.declared.Inst.{Inst}
 use Rattle.lid_design.specs.declared.Bind.{Bind}
 use Rattle.lid_design.specs.Columns.{is_clock, data_inputs}
 use Rattle.lid_design.specs.Models.{is_clock_of, firsts, insts_of, number_named, instance_number, IsReached, data_inputs_of}
-use Rattle.lid_check_drivers.specs.Locals.{Local, NetLocal, inputs_from, local_connection, local_of, output_of, outputs_of, locals, model_locals}
+use Rattle.lid_check_drivers.specs.Locals.{Local, NetLocal, inputs_from, local_connection, local_of, output_driver, outputs_of, locals, model_locals}
 use Rattle.lid_check_elab.specs.Templates.{shown_local}
 use Rattle.lid_check_elab.specs.Parts.{net_of, numbered_local, Grows, ShowsDrivers, data_of, output_sets}
 use Rattle.lid_check_drivers.specs.Judged.{IsJudged}
@@ -56,17 +56,17 @@ get_none (x ∷ xs) zero d none = absurd (let e : Some x ≡ None = none in cc)
 get_none (x ∷ xs) (suc i) d none = get_none xs i d none
 
 -- outputs by a set of them
-outputs_by : (ns : List (List ℕ)) (i : ℕ) (binds : List Bind) → flat_map (output_of (firsts ns) i) binds ≡ flat_map (output_of ns i) binds
+outputs_by : (ns : List (List ℕ)) (i : ℕ) (binds : List Bind) → flat_map (output_driver (firsts ns) i) binds ≡ flat_map (output_driver ns i) binds
 outputs_by ns i [] = refl
 outputs_by ns i (b ∷ binds) =
-    ap (λ (c : Bool). cond c ((b.actual, local_connection i b.formal) ∷ []) [] ++ flat_map (output_of (firsts ns) i) binds) (is_among_firsts b.formal ns)
-    ∙ ap (λ (ps : List NetLocal). output_of ns i b ++ ps) (outputs_by ns i binds)
+    ap (λ (c : Bool). cond c ((b.actual, local_connection i b.formal) ∷ []) [] ++ flat_map (output_driver (firsts ns) i) binds) (is_among_firsts b.formal ns)
+    ∙ ap (λ (ps : List NetLocal). output_driver ns i b ++ ps) (outputs_by ns i binds)
 
-pub inst_outputs : (d : Design) (k i j : ℕ) (inst : Inst) → slice_get (insts_of d k) i ≡ Some inst → instance_number d i k ≡ Some j → j < length d.models → (sets : List (List (List ℕ))) → sets ≡ output_sets d.models → (formals : List (List ℕ)) → formals ≡ get_or sets j formals → flat_map (output_of formals i) inst.binds ≡ outputs_of d (i, inst)
+pub inst_outputs : (d : Design) (k i j : ℕ) (inst : Inst) → slice_get (insts_of d k) i ≡ Some inst → instance_number d i k ≡ Some j → j < length d.models → (sets : List (List (List ℕ))) → sets ≡ output_sets d.models → (formals : List (List ℕ)) → formals ≡ get_or sets j formals → flat_map (output_driver formals i) inst.binds ≡ outputs_of d (i, inst)
 inst_outputs d k i j inst at number below sets whole formals is =
-    ap (λ (ns : List (List ℕ)). flat_map (output_of ns i) inst.binds) (sym found.2)
+    ap (λ (ns : List (List ℕ)). flat_map (output_driver ns i) inst.binds) (sym found.2)
     ∙ outputs_by found.0.outputs i inst.binds
-    ∙ sym (ap (λ (o : Option Model). option_map_or (λ m. flat_map (output_of m.outputs i) inst.binds) o []) (named_model d inst j named ∙ found.1))
+    ∙ sym (ap (λ (o : Option Model). option_map_or (λ m. flat_map (output_driver m.outputs i) inst.binds) o []) (named_model d inst j named ∙ found.1))
   where
     named : number_named d inst.model ≡ Some j
     named = ap (option_and_then (λ inst. number_named d inst.model)) (sym at) ∙ number

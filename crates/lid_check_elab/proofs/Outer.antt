@@ -14,10 +14,10 @@ use Rattle.lid_design.specs.Columns.{Column, column}
 use Rattle.lid_design.specs.Models.{nets, insts_of, instance_number, number_named, number_from, IsReached, data_inputs_of}
 use Rattle.lid_design.specs.Elaboration.{model_nets, columns}
 use Rattle.lid_check_elab.specs.Numbers.{start_of}
-use Rattle.lid_check_drivers.specs.Locals.{locals, actual_for, of_net}
-use Rattle.lid_check_elab.specs.Templates.{shown_local, place_in, placed_driver, IsSmallLocal}
+use Rattle.lid_check_drivers.specs.Locals.{locals, actual_for, values_of}
+use Rattle.lid_check_elab.specs.Templates.{shown_local, net_place, placed_driver, IsSmallLocal}
 use Rattle.lid_check_drivers.specs.Judged.{IsJudged}
-use Rattle.lid_check_elab.specs.Scopes.{IsOnlyDriver, ArePlaced, IsAround, IsScopeAt, IsOuter, picked, IsSmallAt}
+use Rattle.lid_check_elab.specs.Scopes.{IsOnlyDriver, ArePlaced, IsAround, IsScopeAt, IsOuter, picked_driver, IsSmallAt}
 use Rattle.lid_check_elab.specs.Parts.{places_in_inst, IsPicked, IsTemplate, AreTemplates}
 use Rattle.lid_check_elab.specs.declared.template.LocalDriver.{LocalDriver}
 use Rattle.lid_check_elab.specs.declared.template.Template.{Template}
@@ -41,7 +41,7 @@ pub record OuterInst (d : Design) (ts : List Template) (path : List ℕ) (k : �
   pub here : slice_get ts a.model ≡ Some t
   pub inst : Inst
   pub at : slice_get (insts_of d a.model) a.inst ≡ Some inst
-  pub actuals : slice_get t.actuals a.inst ≡ Some (map (λ formal. place_in d a.model (actual_for inst formal)) (data_inputs_of d k))
+  pub actuals : slice_get t.actuals a.inst ≡ Some (map (λ formal. net_place d a.model (actual_for inst formal)) (data_inputs_of d k))
 
 pub outer_inst : (d : Design) (ts : List Template) → AreTemplates d ts → (path : List ℕ) (p : Scope) (a : Around) → IsScopeAt d path p → p.around ≡ Some a → OuterInst d ts path p.model a
 unfolding number_from
@@ -79,7 +79,7 @@ fits d path k (Some around) judged w = by (slice_get d.models w.around) refl w.a
 module _ (d : Design) (judged : IsJudged d) (path : List ℕ) (k : ℕ) (leads : number_from d d.root path ≡ Some k) (t : Template) (is : IsTemplate d k t) (around : Option (ℕ × List ℕ)) (outer : IsOuter d path k around) where
   -- what a pick stands for
   record IsPlaced (net : List ℕ) (pick : ℕ) : Type 0 where
-    right : IsOnlyDriver d (column path net) (picked d (start_of d path) t.offsets around t.locals pick)
+    right : IsOnlyDriver d (column path net) (picked_driver d (start_of d path) t.offsets around t.locals pick)
     small : IsSmallAt d t.offsets around (slice_get t.locals pick)
     there : pick < length t.locals
 
@@ -97,7 +97,7 @@ module _ (d : Design) (judged : IsJudged d) (path : List ℕ) (k : ℕ) (leads :
       by (Some m) e =
           let names : model_nets d k ≡ nets d m = ap (λ (o : Option Model). option_map_or (nets d) o []) e in
           let among = get_among (nets d m) j net (ap (λ (ns : List (List ℕ)). slice_get ns j) (sym names) ∙ named) in
-          let one : of_net net (locals d m) ≡ p.local ∷ [] = ap (λ (o : Option Model). of_net net (option_map_or (locals d) o [])) (sym e) ∙ p.only in
+          let one : values_of net (locals d m) ≡ p.local ∷ [] = ap (λ (o : Option Model). values_of net (option_map_or (locals d) o [])) (sym e) ∙ p.only in
           let insts : length t.offsets ≡ length m.insts = is.offsets.long ∙ ap (λ (o : Option Model). length (option_map_or (λ m. m.insts) o [])) e in
           let fit = fits d path k around judged outer in
           let right = net_right d judged path k m leads e t.offsets is.offsets.each insts around fit net among p.local one in
@@ -131,11 +131,11 @@ module _ (d : Design) (judged : IsJudged d) (path : List ℕ) (k : ℕ) (leads :
       (subst (λ (ps : List ℕ). PicksFit t.offsets t.locals ps) (sym e) all_fit))
 
   -- what is written goes on with the columns of the place
-  pub placed_more : (old new : List (Driver ℕ)) → start_of d path ≡ length old → ArePlaced d old → new ≡ old ++ map (picked d (start_of d path) t.offsets around t.locals) t.picks → ArePlaced d new
-  placed_more old new start before whole n c s at here = by (get_split old (map (picked d (start_of d path) t.offsets around t.locals) t.picks) n s (ap (λ (ss : List (Driver ℕ)). slice_get ss n) (sym whole) ∙ here))
+  pub placed_more : (old new : List (Driver ℕ)) → start_of d path ≡ length old → ArePlaced d old → new ≡ old ++ map (picked_driver d (start_of d path) t.offsets around t.locals) t.picks → ArePlaced d new
+  placed_more old new start before whole n c s at here = by (get_split old (map (picked_driver d (start_of d path) t.offsets around t.locals) t.picks) n s (ap (λ (ss : List (Driver ℕ)). slice_get ss n) (sym whole) ∙ here))
     where
       driver : ℕ → Driver ℕ
-      driver pick = picked d (start_of d path) t.offsets around t.locals pick
+      driver pick = picked_driver d (start_of d path) t.offsets around t.locals pick
 
       by : (slice_get old n ≡ Some s) ⊎ ((j : ℕ) × (n ≡ length old + j) × (slice_get (map driver t.picks) j ≡ Some s)) → IsOnlyDriver d c s
       by (inl first) = before n c s at first
@@ -147,12 +147,12 @@ module _ (d : Design) (judged : IsJudged d) (path : List ℕ) (k : ℕ) (leads :
           let same_column : column path named.0 ≡ c = (let f : Some (column path named.0) ≡ Some c = sym column_here ∙ ap (slice_get (columns d)) (sym number) ∙ at in cc) in
           subst (λ (x : Column). IsOnlyDriver d x s) same_column (subst (IsOnlyDriver d (column path named.0)) found.2 (at_net j found.0 named.0 found.1 named.1).right)
 
-pub same_network : (d : Design) (s r : ℕ) (os qs : List ℕ) (around : Option (ℕ × List ℕ)) (ls ms : List LocalDriver) (ps ns : List ℕ) → s ≡ r → os ≡ qs → ls ≡ ms → ps ≡ ns → map (picked d s os around ls) ps ≡ map (picked d r qs around ms) ns
+pub same_network : (d : Design) (s r : ℕ) (os qs : List ℕ) (around : Option (ℕ × List ℕ)) (ls ms : List LocalDriver) (ps ns : List ℕ) → s ≡ r → os ≡ qs → ls ≡ ms → ps ≡ ns → map (picked_driver d s os around ls) ps ≡ map (picked_driver d r qs around ms) ns
 same_network d s r os qs around ls ms ps ns a b e f =
-    ap (λ (s : ℕ). map (picked d s os around ls) ps) a
-    ∙ ap (λ (os : List ℕ). map (picked d r os around ls) ps) b
-    ∙ ap (λ (ls : List LocalDriver). map (picked d r qs around ls) ps) e
-    ∙ ap (λ (ps : List ℕ). map (picked d r qs around ms) ps) f
+    ap (λ (s : ℕ). map (picked_driver d s os around ls) ps) a
+    ∙ ap (λ (os : List ℕ). map (picked_driver d r os around ls) ps) b
+    ∙ ap (λ (ls : List LocalDriver). map (picked_driver d r qs around ls) ps) e
+    ∙ ap (λ (ps : List ℕ). map (picked_driver d r qs around ms) ps) f
 
 pub on_ok : {A E : Type 0} {P Q : Type 0} → (P → Q) → (r : Result A E) → OnOk r P → OnOk r Q
 on_ok f (Ok x) h = f h

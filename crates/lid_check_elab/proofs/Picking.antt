@@ -11,7 +11,7 @@ use Rattle.lid_design.specs.declared.Model.{Model}
 use Rattle.lid_design.specs.Models.{firsts, nets, IsReached}
 use Rattle.lid_design.specs.Elaboration.{model_nets}
 use Rattle.lid_check_names.specs.Names.{texts}
-use Rattle.lid_check_drivers.specs.Locals.{Local, NetLocal, locals, of_net, model_locals}
+use Rattle.lid_check_drivers.specs.Locals.{Local, NetLocal, locals, values_of, model_locals}
 use Rattle.lid_check_elab.specs.Templates.{shown_local, net_by_place}
 use Rattle.lid_check_elab.specs.Parts.{net_of, numbered_local, ShowsDrivers, IsPicked}
 use Rattle.lid_check_drivers.specs.Judged.{IsJudged}
@@ -30,13 +30,13 @@ module _ (d : Design) (judged : IsJudged d) (k : ℕ) (reached : IsReached d k) 
   picked_at : (driven : Driven) → ShowsDrivers d k (locals d m) driven → (net : List ℕ) → Among net (nets d m) → IsPicked d k driven.locals.items (position_or_len (bytes_eq net) (map net_of (locals d m))) net
   picked_at driven shows net is = record {
     local = one.0;
-    only = ap (of_net net) same_locals ∙ one.1;
+    only = ap (values_of net) same_locals ∙ one.1;
     driver = found.0;
     here = found.1;
     shown = found.2 ∙ ap (net_by_place d k) alone;
   }
     where
-      one : (l : Local (List ℕ)) × (of_net net (locals d m) ≡ l ∷ [])
+      one : (l : Local (List ℕ)) × (values_of net (locals d m) ≡ l ∷ [])
       one = exactly_one d judged k reached m here net is
 
       place : ℕ

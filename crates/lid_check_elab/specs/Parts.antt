@@ -10,8 +10,8 @@ use Rattle.lid_design.specs.Models.{firsts, insts_of, number_named, instance_num
 use Rattle.lid_design.specs.Elaboration.{model_nets}
 use Rattle.lid_check_names.specs.Names.{texts}
 use Rattle.lid_check_elab.specs.Numbers.{size_of, offset_of}
-use Rattle.lid_check_drivers.specs.Locals.{Local, NetLocal, of_net, actual_for, model_locals}
-use Rattle.lid_check_elab.specs.Templates.{shown_local, place_in, net_by_place}
+use Rattle.lid_check_drivers.specs.Locals.{Local, NetLocal, values_of, actual_for, model_locals}
+use Rattle.lid_check_elab.specs.Templates.{shown_local, net_place, net_by_place}
 use Rattle.lid_check_elab.specs.declared.driven.Driven.{Driven}
 use Rattle.lid_check_elab.specs.declared.template.LocalDriver.{LocalDriver}
 use Rattle.lid_check_elab.specs.declared.template.Template.{Template}
@@ -57,7 +57,7 @@ picks_among d k nets = map (λ net. position_or_len (bytes_eq net) nets) (model_
 
 -- the nets of model k that the data inputs of an instance are bound to, where its model has number j
 abbrev pub places_bound : Design → ℕ → ℕ → Inst → List ℕ
-places_bound d k j inst = map (λ formal. place_in d k (actual_for inst formal)) (data_inputs_of d j)
+places_bound d k j inst = map (λ formal. net_place d k (actual_for inst formal)) (data_inputs_of d j)
 
 abbrev pub places_in_inst : Design → ℕ → Inst → List ℕ
 places_in_inst d k inst = option_map_or (λ j. places_bound d k j inst) (number_named d inst.model) []
@@ -65,7 +65,7 @@ places_in_inst d k inst = option_map_or (λ j. places_bound d k j inst) (number_
 -- what drives a net of a model, by the list of all that drive nets of it
 pub record IsPicked (d : Design) (k : ℕ) (all : List LocalDriver) (pick : ℕ) (net : List ℕ) : Type 0 where
   pub local : Local (List ℕ)
-  pub only : of_net net (model_locals d k) ≡ local ∷ []
+  pub only : values_of net (model_locals d k) ≡ local ∷ []
   pub driver : LocalDriver
   pub here : slice_get all pick ≡ Some driver
   pub shown : shown_local d driver ≡ net_by_place d k local

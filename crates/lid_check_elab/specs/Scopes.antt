@@ -14,7 +14,7 @@ use Rattle.lid_design.specs.Elaboration.{columns}
 use Rattle.lid_check_elab.specs.Elaborations.{map_driver, column_at}
 use Rattle.lid_check_elab.specs.Numbers.{size_of, start_of, weight_of}
 use Rattle.lid_check_drivers.specs.Locals.{actual_for}
-use Rattle.lid_check_elab.specs.Templates.{shown_local, place_in, placed_driver, IsSmallLocal}
+use Rattle.lid_check_elab.specs.Templates.{shown_local, net_place, placed_driver, IsSmallLocal}
 use Rattle.lid_check_elab.specs.declared.template.LocalDriver.{LocalDriver}
 use Rattle.lid_check_elab.specs.declared.placing.Scope.{Scope}
 use Rattle.lid_check_elab.specs.declared.placing.Around.{Around}
@@ -50,8 +50,8 @@ weights d [] = 0
 weights d (p ∷ ps) = weight_of d p.model + weights d ps
 
 -- the driver of a pick
-abbrev pub picked : Design → ℕ → List ℕ → Option (ℕ × List ℕ) → List LocalDriver → ℕ → Driver ℕ
-picked d start offsets around all pick = option_map_or (λ x. placed_driver start offsets around (shown_local d x)) (slice_get all pick) (from_input 0)
+abbrev pub picked_driver : Design → ℕ → List ℕ → Option (ℕ × List ℕ) → List LocalDriver → ℕ → Driver ℕ
+picked_driver d start offsets around all pick = option_map_or (λ x. placed_driver start offsets around (shown_local d x)) (slice_get all pick) (from_input 0)
 
 -- the path leads into an instance: the nets of the model around it start at the first number, and its
 -- data inputs are bound to those at the second numbers
@@ -64,7 +64,7 @@ pub record StandsIn (d : Design) (path : List ℕ) (k : ℕ) (start : ℕ) (actu
   pub leads : number_from d d.root up ≡ Some around
   pub at : slice_get (insts_of d around) i ≡ Some inst
   pub is_start : start ≡ start_of d up
-  pub is_actuals : actuals ≡ map (λ formal. place_in d around (actual_for inst formal)) (data_inputs_of d k)
+  pub is_actuals : actuals ≡ map (λ formal. net_place d around (actual_for inst formal)) (data_inputs_of d k)
 
 -- what stands around a path, as drivers are placed
 abbrev pub IsOuter : Design → List ℕ → ℕ → Option (ℕ × List ℕ) → Type 0

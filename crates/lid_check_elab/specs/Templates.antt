@@ -21,15 +21,15 @@ shown_local d (OfCover model cell inputs) = local_cover (cover_in d model cell) 
 shown_local d (Connection inst net) = local_connection inst net
 
 -- the place of a net among those of a model
-abbrev pub place_in : Design → ℕ → List ℕ → ℕ
-place_in d k name = position_or_len (bytes_eq name) (model_nets d k)
+abbrev pub net_place : Design → ℕ → List ℕ → ℕ
+net_place d k name = position_or_len (bytes_eq name) (model_nets d k)
 
 -- names of nets, by their places
 abbrev pub net_by_place : Design → ℕ → Local (List ℕ) → Local ℕ
 net_by_place d k (local_input j) = local_input j
-net_by_place d k (local_latch first input) = local_latch first (place_in d k input)
-net_by_place d k (local_cover cover inputs) = local_cover cover (map (place_in d k) inputs)
-net_by_place d k (local_connection i formal) = local_connection i (option_map_or (λ j. place_in d j formal) (instance_number d i k) 0)
+net_by_place d k (local_latch first input) = local_latch first (net_place d k input)
+net_by_place d k (local_cover cover inputs) = local_cover cover (map (net_place d k) inputs)
+net_by_place d k (local_connection i formal) = local_connection i (option_map_or (λ j. net_place d j formal) (instance_number d i k) 0)
 
 -- an input is given at the root. In an instance, the scope around starts at a number and binds inputs to
 -- its nets

@@ -3,7 +3,7 @@ ghost use Rattle.lid_design.specs.Models.{firsts, insts_of, IsReached, formal_of
 ghost use Rattle.lid_check_names.specs.Names.{texts};
 ghost use Rattle.lid_check_drivers.specs.Locals.{actual_for};
 ghost use Rattle.lid_check_elab.specs.Parts.{places_in_inst};
-ghost use Rattle.lid_check_elab.specs.Templates.{place_in};
+ghost use Rattle.lid_check_elab.specs.Templates.{net_place};
 
 use crate::places::{insts_at, place_in};
 use lid_base::Items;
@@ -58,7 +58,7 @@ fn find_places(
 ) -> Result<Items<u32>, AllocError>
     requires reached { IsReached judged.now model }
     requires once { firsts (map formal_of inst.now.binds) ≡ map formal_of inst.now.binds }
-    ensures { IfOk result (λ places. places ≡ map (λ formal. place_in judged.now model (actual_for inst.now formal)) (texts formals.now)) }
+    ensures { IfOk result (λ places. places ≡ map (λ formal. net_place judged.now model (actual_for inst.now formal)) (texts formals.now)) }
 {
     let bound = formals_of(alloc, inst.binds.as_slice())?;
     list_places(alloc, judged, model, inst, &bound, formals)
@@ -75,7 +75,7 @@ fn list_places(
 ) -> Result<Items<u32>, AllocError>
     requires reached { IsReached judged.now model }
     requires bound { bound.now ≡ map formal_of inst.now.binds }
-    ensures { IfOk result (λ places. places ≡ map (λ formal. place_in judged.now model (actual_for inst.now formal)) (texts formals.now)) }
+    ensures { IfOk result (λ places. places ≡ map (λ formal. net_place judged.now model (actual_for inst.now formal)) (texts formals.now)) }
 {
     let mut places = Vec::with_capacity(alloc, formals.len())?;
     for formal in formals {

@@ -3,8 +3,8 @@ ghost use Rattle.lid_design.specs.Columns.{first_bit};
 ghost use Rattle.lid_design.specs.Models.{insts_of, instance_number, IsReached};
 ghost use Rattle.std.specs.List.{enumerate_from};
 ghost use Rattle.lid_check_names.specs.Names.{texts};
-ghost use Rattle.lid_check_drivers.specs.Locals.{inputs_from, local_cover, local_of, output_of, outputs_of, model_locals};
-ghost use Rattle.lid_check_elab.specs.Templates.{shown_local, place_in};
+ghost use Rattle.lid_check_drivers.specs.Locals.{inputs_from, local_cover, local_of, output_driver, outputs_of, model_locals};
+ghost use Rattle.lid_check_elab.specs.Templates.{shown_local, net_place};
 ghost use Rattle.lid_check_elab.specs.Covers.{cells_at, cover_in};
 ghost use Rattle.lid_check_elab.specs.Parts.{Grows, ShowsDrivers, data_of, output_sets};
 
@@ -165,7 +165,7 @@ fn cover_of(
     inputs: &[Name],
 ) -> Result<LocalDriver, AllocError>
     requires { IsReached judged.now model }
-    ensures { IfOk result (λ local. shown_local judged.now local ≡ local_cover (cover_in judged.now model i) (map (place_in judged.now model) inputs.now)) }
+    ensures { IfOk result (λ local. shown_local judged.now local ≡ local_cover (cover_in judged.now model i) (map (net_place judged.now model) inputs.now)) }
 {
     let cell = narrow(i)?;
     let inputs = places_of(alloc, judged, model, inputs)?;
@@ -253,7 +253,7 @@ fn push_binds<'d>(
 ) -> Result<(), AllocError>
     requires reached { IsReached judged.now at.sub }
     requires sub { instance_number judged.now at.number at.model ≡ Some at.sub }
-    ensures { OnOk result (Grows judged.now at.model (flat_map (output_of formals.now at.number) binds.now) into.old into.new) }
+    ensures { OnOk result (Grows judged.now at.model (flat_map (output_driver formals.now at.number) binds.now) into.old into.new) }
 {
     for bind in binds {
         push_bind(into, judged, formals, at, bind)?;
@@ -271,7 +271,7 @@ fn push_bind<'d>(
 ) -> Result<(), AllocError>
     requires reached { IsReached judged.now at.sub }
     requires sub { instance_number judged.now at.number at.model ≡ Some at.sub }
-    ensures { OnOk result (Grows judged.now at.model (output_of formals.now at.number bind.now) into.old into.new) }
+    ensures { OnOk result (Grows judged.now at.model (output_driver formals.now at.number bind.now) into.old into.new) }
 {
     if formals.has(bind.formal.as_slice()) {
         let net = place_in(judged, at.sub, bind.formal.as_slice());

@@ -1,7 +1,7 @@
 ghost use Rattle.std.specs.Prelude.{◌≡◌, ◌<◌, ◌^◌, Some, length, map, slice_get, IfOk};
 ghost use Rattle.lid_design.specs.Models.{insts_of, IsReached};
 ghost use Rattle.lid_design.specs.Elaboration.{model_nets};
-ghost use Rattle.lid_check_elab.specs.Templates.{place_in};
+ghost use Rattle.lid_check_elab.specs.Templates.{net_place};
 
 use lid_base::{Items, Name};
 use lid_check_drivers::Judged;
@@ -38,7 +38,7 @@ pub fn count_nets(judged: &Judged<'_>, model: u32) -> u32
 /// The place of a net among the nets of a model; their number where it is none.
 pub fn place_in(judged: &Judged<'_>, model: u32, net: &[u8]) -> u32
     requires { IsReached judged.now model }
-    ensures { result ≡ place_in judged.now model net.now }
+    ensures { result ≡ net_place judged.now model net.now }
 {
     let _ = judged.design();
     match judged.place_of(model, net) {
@@ -55,7 +55,7 @@ pub fn places_of(
     nets: &[Name],
 ) -> Result<Items<u32>, AllocError>
     requires { IsReached judged.now model }
-    ensures { IfOk result (λ places. places ≡ map (place_in judged.now model) nets.now) }
+    ensures { IfOk result (λ places. places ≡ map (net_place judged.now model) nets.now) }
 {
     let mut places = Vec::with_capacity(alloc, nets.len())?;
     for net in nets {

@@ -7,7 +7,7 @@ ghost use Rattle.lid_design.specs.Elaboration.{model_nets, columns};
 ghost use Rattle.lid_check_elab.specs.Numbers.{over_insts, size_of, offset_of, weight_of};
 ghost use Rattle.lid_check_elab.specs.Elaborations.{shown_driver};
 ghost use Rattle.lid_check_elab.specs.Templates.{seen_around};
-ghost use Rattle.lid_check_elab.specs.Scopes.{picked, IsSmallAt, ArePlaced, AreNext, IsScopeAt, IsOuter, weights};
+ghost use Rattle.lid_check_elab.specs.Scopes.{picked_driver, IsSmallAt, ArePlaced, AreNext, IsScopeAt, IsOuter, weights};
 ghost use Rattle.lid_check_elab.specs.Parts.{HasOffsets, IsTemplate, AreTemplates};
 
 use crate::driver::ColumnDriver;
@@ -47,7 +47,7 @@ pub fn push_drivers(
     requires picks { All (λ pick. pick < length locals.now) picks.now }
     requires small { All (λ pick. IsSmallAt judged.now base.offsets.now (seen_around base.around) (slice_get locals.now pick)) picks.now }
     ensures { OnOk result (map (shown_driver judged.now) drivers.new.items ≡ map (shown_driver judged.now) drivers.old.items
-        ++ map (picked judged.now base.entry.start base.entry.offsets.now (seen_around base.entry.around) locals.now) picks.now) }
+        ++ map (picked_driver judged.now base.entry.start base.entry.offsets.now (seen_around base.entry.around) locals.now) picks.now) }
 {
     for pick in picks {
         let local = &locals[*pick as usize];

@@ -12,7 +12,7 @@ use Rattle.lid_design.specs.Elaboration.{model_nets}
 use Rattle.lid_check_hierarchy.specs.Surveys.{AreNames, IsModelOrder}
 use Rattle.lid_check_hierarchy.specs.Graphs.{IsUsedGraph}
 use Rattle.lid_check_hierarchy.specs.Clocks.{HaveClocks}
-use Rattle.lid_check_hierarchy.specs.Nets.{outside, nets_by, inputs_by, by_clocks, nets_of_all, inputs_of_all}
+use Rattle.lid_check_hierarchy.specs.Nets.{names_outside, nets_by, inputs_by, by_clocks, nets_of_all, inputs_of_all}
 use Rattle.lid_check_hierarchy.proofs.Walks.{instance_below, reached_below}
 use Rattle.lid_check_hierarchy.proofs.Listing.{firsts_filter}
 use Rattle.lid_check_hierarchy.proofs.Fields.{field_at}
@@ -40,7 +40,7 @@ module _ (d : Design) (formed : IsWellFormed d) (order : List ℕ) (ordered : Is
   clock k name reached = have.each k name (ordered.each k reached)
 
   -- the names of a reached model that are no clock names, by the set of these
-  without : (k : ℕ) (m : Model) (names : List (List ℕ)) → IsReached d k → slice_get d.models k ≡ Some m → outside (get_or clocks k []) names ≡ filter (λ net. not (is_clock d m net)) names
+  without : (k : ℕ) (m : Model) (names : List (List ℕ)) → IsReached d k → slice_get d.models k ≡ Some m → names_outside (get_or clocks k []) names ≡ filter (λ net. not (is_clock d m net)) names
   without k m names reached here =
       filter_same _ _ names (λ net. ap not (clock k net reached ∙ ap (λ (o : Option Model). option_map_or (λ m. is_clock d m net) o false) here))
 

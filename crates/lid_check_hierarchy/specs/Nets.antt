@@ -5,16 +5,16 @@ use Rattle.lid_design.specs.Columns.{is_among}
 use Rattle.lid_design.specs.Models.{occurrences, firsts}
 
 -- the names that are in no set
-abbrev pub outside : List (List ℕ) → List (List ℕ) → List (List ℕ)
-outside set names = filter (λ net. not (is_among net set)) names
+abbrev pub names_outside : List (List ℕ) → List (List ℕ) → List (List ℕ)
+names_outside set names = filter (λ net. not (is_among net set)) names
 
 -- the names of a model where they come first, without clock names
 abbrev pub nets_by : Model → List (List ℕ) → List (List ℕ)
-nets_by m clocks = firsts (outside clocks (occurrences m))
+nets_by m clocks = firsts (names_outside clocks (occurrences m))
 
 -- the inputs of a model, without clock names
 abbrev pub inputs_by : Model → List (List ℕ) → List (List ℕ)
-inputs_by m clocks = outside clocks m.inputs
+inputs_by m clocks = names_outside clocks m.inputs
 
 -- such names of each model, by the sets of their clock names
 abbrev pub by_clocks : (Model → List (List ℕ) → List (List ℕ)) → List Model → List (List (List ℕ)) → List (List (List ℕ))

@@ -1,6 +1,6 @@
 ghost use Rattle.std.specs.Prelude.{◌≡◌, length, IfOk};
 ghost use Rattle.lid_check_names.specs.Names.{texts};
-ghost use Rattle.lid_check_hierarchy.specs.Nets.{outside, nets_by, nets_of_all};
+ghost use Rattle.lid_check_hierarchy.specs.Nets.{names_outside, nets_by, nets_of_all};
 
 use lid_base::Items;
 use lid_check_names::{NameSet, list_occurrences};
@@ -42,7 +42,7 @@ pub fn outside<'d>(
     set: &NameSet<'d>,
     names: &[&'d [u8]],
 ) -> Result<Vec<&'d [u8]>, AllocError>
-    ensures { IfOk result (λ left. texts left.items ≡ outside set.now (texts names.now)) }
+    ensures { IfOk result (λ left. texts left.items ≡ names_outside set.now (texts names.now)) }
 {
     let mut left = Vec::new(alloc);
     for name in names {

@@ -13,7 +13,7 @@ use Rattle.lid_clock_flat.specs.declared.station.FlatStation.{FlatStation}
 use Rattle.lid_clock_flat.specs.declared.stations.FlatStations.{FlatStations}
 use Rattle.lid_clock_flat.specs.declared.mover.FlatMover.{FlatMover}
 use Rattle.lid_clock_flat.specs.declared.run.FlatRun.{FlatRun}
-use Rattle.lid_clock_flat.specs.Flats.{IsFlat, AreFlat, AreMovers, AreNodes, HaveDecided, NodesBegin, NodesDecided, MoversBegin, MoversDecided}
+use Rattle.lid_clock_flat.specs.Flats.{IsFlatAt, AreFlat, AreMovers, AreNodesAt, HaveDecided, NodesBegin, NodesDecided, MoversBegin, MoversDecided}
 use Rattle.lid_clock_flat.specs.Runs.{FlatRan}
 use Rattle.std.proofs.lemmas.Option.{slice_get_within}
 
@@ -21,7 +21,7 @@ module _ (l : Life) (hold : Hold) (k : ℕ) (agree : AgreeBefore k hold l.hold) 
   same : fired_after (held_so l hold) k ≡ fired_after l k
   same = fired_alike l hold k agree
 
-  station_alike : (s : ℕ) (places : List ℕ) (x : FlatStation) → IsFlat l k s places x → IsFlat (held_so l hold) k s places x
+  station_alike : (s : ℕ) (places : List ℕ) (x : FlatStation) → IsFlatAt l k s places x → IsFlatAt (held_so l hold) k s places x
   station_alike s places x is = record {
     filled = is.filled;
     drained = is.drained;
@@ -44,7 +44,7 @@ module _ (l : Life) (hold : Hold) (k : ℕ) (agree : AgreeBefore k hold l.hold) 
         record { past = is.past; there = is.there; drains = is.drains; fills = is.fills; fired_is = is.fired_is ∙ ap (λ (c : Counts). c (length l.setup.system.nodes + j)) (sym same) };
   }
 
-  pub nodes_alike : (g : ℕ) (nodes : List ClockActor) → AreNodes l k g nodes → AreNodes (held_so l hold) k g nodes
+  pub nodes_alike : (g : ℕ) (nodes : List ClockActor) → AreNodesAt l k g nodes → AreNodesAt (held_so l hold) k g nodes
   nodes_alike g nodes are = record {
     many = are.many;
     each = λ v a at. subst (λ (c : Counts). IsActor (held_so l hold) g v (c v) a) (sym same) (actor_alike l hold g v (fired_after l k v) a (are.each v a at));
@@ -131,7 +131,7 @@ ran_on l k g x new nodes movers y z early flags ran decided moved flat are_nodes
   rows_are = rows ∙ ran.rows_are;
   given_is = given ∙ ran.given_is;
   few = ran.few;
-  all_nodes = subst (AreNodes l (suc k) g) (sym are_nodes) (record { many = decided.count; each = λ v a at. (node_at v a at).actor });
+  all_nodes = subst (AreNodesAt l (suc k) g) (sym are_nodes) (record { many = decided.count; each = λ v a at. (node_at v a at).actor });
   all_movers = subst (AreMovers l (suc k)) (sym are_movers) (record { many = moved.count; each = λ j m at. moved.before j m (slice_get_within movers j m at) at });
   all_stations = flat;
   flags = ap length are_flags ∙ moved.done.many;

@@ -14,14 +14,14 @@ use Rattle.lid_clock.proofs.Bars.{stands, reads_own}
 use Rattle.lid_clock_flat.specs.declared.station.FlatStation.{FlatStation}
 use Rattle.lid_clock_flat.specs.Reads.{AreReadOnce, IsReadAt, OneIsEmpty, OneIsFull}
 use Rattle.lid_clock_flat.specs.Nodes.{SeesStations, SeesNoBar, SeesBar}
-use Rattle.lid_clock_flat.specs.Flats.{IsFlat, AreFlat}
+use Rattle.lid_clock_flat.specs.Flats.{IsFlatAt, AreFlat}
 
 -- a station that is read at a place
 pub record IsRead (l : Life) (k : ℕ) (reads : List ℕ) (all : List FlatStation) (places : List ℕ) (place number : ℕ) : Type 0 where
   pub within : place < length reads
   pub station : FlatStation
   pub at : IsReadAt reads all place station
-  pub is : IsFlat l k number places station
+  pub is : IsFlatAt l k number places station
 
 module _ (l : Life) (k : ℕ) (all : List FlatStation) (places : List ℕ) (flat : AreFlat l k all places) where
   -- the station of a number
@@ -78,7 +78,7 @@ module _ (l : Life) (k : ℕ) (all : List FlatStation) (places : List ℕ) (flat
     finds_void one =
         let station : ℕ = get_or a.ins.items one.place 0 in
         let own = drained_is (links_of l.setup.system) l.setup.placement v one.place station (in_is g v (fired_after l k v) a actor one.place one.within) in
-        let is : IsFlat l k station places one.station = flat.each station one.station one.is in
+        let is : IsFlatAt l k station places one.station = flat.each station one.station one.is in
         let holds : put_after l k station ≡ taken_after l k station + one.station.held = is.holds in
         let none : one.station.held ≡ 0 = one.so in
         record { station = station; there = own.0; drains = own.1; void = omega arith }
@@ -87,7 +87,7 @@ module _ (l : Life) (k : ℕ) (all : List FlatStation) (places : List ℕ) (flat
     finds_stop one =
         let station : ℕ = get_or a.outs.items one.place 0 in
         let own = filled_is (links_of l.setup.system) l.setup.placement v one.place station (out_is g v (fired_after l k v) a actor one.place one.within) in
-        let is : IsFlat l k station places one.station = flat.each station one.station one.is in
+        let is : IsFlatAt l k station places one.station = flat.each station one.station one.is in
         let holds : put_after l k station ≡ taken_after l k station + one.station.held = is.holds in
         let full : one.station.held ≡ one.station.cap = one.so in
         let size : one.station.cap ≡ capacity l.setup.placement station = is.size in

@@ -15,7 +15,7 @@ use Rattle.lid_clock.specs.declared.stream.ClockStream.{ClockStream}
 use Rattle.lid_shell_laws.specs.Setups.{IsInputRow}
 use Rattle.lid_clock.specs.Lives.{Life, StartsSo}
 use Rattle.lid_clock.specs.Ran.{Ran, IsFirstRow}
-use Rattle.lid_clock_flat.specs.Runs.{IsBuilt}
+use Rattle.lid_clock_flat.specs.Runs.{IsJustStarted}
 
 -- so many rows, each as the first one
 abbrev rows_of : ℕ → Option (List Bool) → List (List Bool)
@@ -51,5 +51,5 @@ module _ (s : System) (p : Placement) (rows : ℕ) (first : Option (List Bool)) 
   }
 
   -- so it was built
-  pub built : (x : ClockStream) (count : ℕ) → ((l : Life) → StartsSo l s p rows first → Ran l 0 (min 1 rows) x) → count ≡ length s.nodes → IsBuilt x count
+  pub built : (x : ClockStream) (count : ℕ) → ((l : Life) → StartsSo l s p rows first → Ran l 0 (min 1 rows) x) → count ≡ length s.nodes → IsJustStarted x count
   built x count ran is_count = (life, min 1 rows, ran life starts, is_count)

@@ -78,10 +78,3 @@ module _ (l : Life) (k first : ℕ) (movers : List FlatMover) (x : FlatStations)
         after = turned.after;
         done = subst (λ (n : ℕ). HaveDecided l k n z (set flags (first + i) w)) number (subst (λ (n : ℕ). HaveDecided l k ((length l.setup.system.nodes + i) + 1) z (set flags (n + i) w)) (sym from) next);
       }
-
-  -- its flag has a place, whose number is small
-  pub mover_flag : (first + i < length flags) × (first + i < 2 ^ 32)
-  mover_flag =
-      let most = few_actors l.setup.system l.setup.placement begins.rules.system begins.rules.fits in
-      let count = now.count in
-      (omega (arith, now.done.many, begins.from, count), omega (arith, most, begins.from, count))

@@ -22,13 +22,13 @@ use Rattle.lid_clock_flat.specs.declared.stations.FlatStations.{FlatStations}
 use Rattle.lid_clock_flat.specs.Rings.{token_on}
 use Rattle.lid_clock_flat.specs.Reads.{IsReadAt, AllHold, AreOffered}
 use Rattle.lid_clock_flat.specs.Nodes.{SeesNoBar, NodeFires}
-use Rattle.lid_clock_flat.specs.Flats.{IsFlat, AreFlat, Chose, Offers, WritesAlone, NodeBegins, NodeDecided}
+use Rattle.lid_clock_flat.specs.Flats.{IsFlatAt, AreFlat, Chose, Offers, WritesAlone, NodeBegins, NodeDecided}
 use Rattle.lid_clock_flat.proofs.Bars.{read_at, may_fire}
 use Rattle.lid_clock_flat.proofs.Keeping.{none_written}
 use borrow.Author.Clash.{clash}
 
 -- the oldest token of a station is that of the number taken
-pub oldest_is : (l : Life) (k s : ℕ) (places : List ℕ) (x : FlatStation) → IsFlat l k s places x → 0 < x.held → token_on places x 0 ≡ token_of_life l s (taken_after l k s)
+pub oldest_is : (l : Life) (k s : ℕ) (places : List ℕ) (x : FlatStation) → IsFlatAt l k s places x → 0 < x.held → token_on places x 0 ≡ token_of_life l s (taken_after l k s)
 oldest_is l k s places x is some =
     let number : taken_after l k s + 0 ≡ taken_after l k s = omega arith in
     is.tokens 0 some ∙ ap (token_of_life l s) number

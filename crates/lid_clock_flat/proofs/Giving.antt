@@ -9,12 +9,12 @@ use Rattle.lid_clock.specs.States.{IsActor}
 use Rattle.lid_clock.specs.Cycles.{CanTake, TakesRow}
 use Rattle.lid_clock.proofs.Giving.{source_given, other_given}
 use Rattle.lid_clock_flat.specs.declared.run.FlatRun.{FlatRun}
-use Rattle.lid_clock_flat.specs.Flats.{AreFlat, AreMovers, AreNodes}
+use Rattle.lid_clock_flat.specs.Flats.{AreFlat, AreMovers, AreNodesAt}
 use Rattle.lid_clock_flat.specs.Runs.{FlatRan}
 use mathlib.Core.Logic.{dite}
 use native.Mathlib.Decide.{ℕ_discrete}
 
-nodes_given : (l : Life) (k g : ℕ) (nodes : List ClockActor) (new : ClockActor) → AreNodes l k g nodes → IsActor l (g + 1) 0 (fired_after l k 0) new → AreNodes l k (g + 1) (set nodes 0 new)
+nodes_given : (l : Life) (k g : ℕ) (nodes : List ClockActor) (new : ClockActor) → AreNodesAt l k g nodes → IsActor l (g + 1) 0 (fired_after l k 0) new → AreNodesAt l k (g + 1) (set nodes 0 new)
 nodes_given l k g nodes new all source = record {
   many = length-set nodes 0 new ∙ all.many;
   each = λ v a there.
@@ -39,7 +39,7 @@ gave l k g x new old source row ran needs at there can takes rest are_nodes move
       rows_are = rows ∙ ran.rows_are;
       given_is = given ∙ ap (λ (n : ℕ). n + 1) ran.given_is;
       few = omega arith;
-      all_nodes = subst (AreNodes l k (g + 1)) (sym are_nodes) (nodes_given l k g x.nodes.items source ran.all_nodes now);
+      all_nodes = subst (AreNodesAt l k (g + 1)) (sym are_nodes) (nodes_given l k g x.nodes.items source ran.all_nodes now);
       all_movers = subst (λ m. AreMovers l k m.items) (sym movers) ran.all_movers;
       all_stations = subst (λ s. AreFlat l k s.all.items s.places.items) (sym stations) ran.all_stations;
       flags = ap (λ w. length w.items) went ∙ ran.flags;

@@ -6,8 +6,8 @@ use Rattle.lid_clock.specs.Lives.{Life}
 use Rattle.lid_clock.specs.States.{actors_of}
 use Rattle.lid_clock_flat.specs.declared.station.FlatStation.{FlatStation}
 use Rattle.lid_clock_flat.specs.declared.stations.FlatStations.{FlatStations}
-use Rattle.lid_clock_flat.specs.Rings.{AreApart}
-use Rattle.lid_clock_flat.specs.Flats.{IsFlat, AreFlat, Chose, Offers, WritesAlone, HaveDecided, Steps}
+use Rattle.lid_clock_flat.specs.Rings.{RingsAreApart}
+use Rattle.lid_clock_flat.specs.Flats.{IsFlatAt, AreFlat, Chose, Offers, WritesAlone, HaveDecided, StationsStep}
 use Rattle.lid_clock_flat.proofs.Writes.{apart_over}
 use mathlib.Core.Logic.{dite}
 use native.Mathlib.Decide.{ℕ_discrete}
@@ -24,7 +24,7 @@ module _ (l : Life) (k v : ℕ) (old new : FlatStations) (alone : WritesAlone v 
   was_there : (s : ℕ) (y : FlatStation) → slice_get new.all.items s ≡ Some y → slice_get old.all.items s ≡ Some y
   was_there s y at = subst (λ (xs : List FlatStation). slice_get xs s ≡ Some y) stations_same at
 
-  flat_at : AreApart old.all.items old.places.items → (s : ℕ) (y : FlatStation) → slice_get old.all.items s ≡ Some y → IsFlat l k s old.places.items y → IsFlat l k s new.places.items y
+  flat_at : RingsAreApart old.all.items old.places.items → (s : ℕ) (y : FlatStation) → slice_get old.all.items s ≡ Some y → IsFlatAt l k s old.places.items y → IsFlatAt l k s new.places.items y
   flat_at apart s y at is = record {
     filled = is.filled;
     drained = is.drained;
@@ -37,7 +37,7 @@ module _ (l : Life) (k v : ℕ) (old new : FlatStations) (alone : WritesAlone v 
   pub flat_kept : AreFlat l k old.all.items old.places.items → AreFlat l k new.all.items new.places.items
   flat_kept flat = record {
     many = ap length stations_same ∙ flat.many;
-    apart = subst (λ (xs : List FlatStation). AreApart xs new.places.items) (sym stations_same) (apart_over old.all.items old.places.items new.places.items flat.apart alone.many);
+    apart = subst (λ (xs : List FlatStation). RingsAreApart xs new.places.items) (sym stations_same) (apart_over old.all.items old.places.items new.places.items flat.apart alone.many);
     each = λ s y at. flat_at flat.apart s y (was_there s y at) (flat.each s y (was_there s y at));
   }
 
@@ -47,7 +47,7 @@ module _ (l : Life) (k v : ℕ) (old new : FlatStations) (alone : WritesAlone v 
       alone.free s y (was_there s y at) (λ same. other (sym fills ∙ same)) ∙ offers s y (was_there s y at) fills
 
 -- one actor more has decided
-pub decided_next : (l : Life) (k n : ℕ) (w : Bool) (old new : FlatStations) (went : List Bool) → HaveDecided l k n old went → Steps l k n w old new → HaveDecided l k (n + 1) new (set went n w)
+pub decided_next : (l : Life) (k n : ℕ) (w : Bool) (old new : FlatStations) (went : List Bool) → HaveDecided l k n old went → StationsStep l k n w old new → HaveDecided l k (n + 1) new (set went n w)
 decided_next l k n w old new went have steps = record {
   many = length-set went n w ∙ have.many;
   flat = flat_kept l k n old new steps.alone have.flat;

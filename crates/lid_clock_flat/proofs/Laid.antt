@@ -13,17 +13,17 @@ use Rattle.lid_clock.specs.States.{token_of_life, put_after, taken_after, IsStat
 use Rattle.lid_clock_flat.specs.declared.station.FlatStation.{FlatStation}
 use Rattle.lid_clock_flat.specs.declared.stations.FlatStations.{FlatStations}
 use Rattle.lid_clock_flat.specs.declared.mover.FlatMover.{FlatMover}
-use Rattle.lid_clock_flat.specs.Rings.{wrapped}
-use Rattle.lid_clock_flat.specs.Layings.{IsLaid, IsLaidLast, StandsFlat, AreLaid, DrainSome, AreMoversOf}
-use Rattle.lid_clock_flat.specs.Flats.{IsFlat, AreFlat, IsMover, AreMovers, AreNodes}
+use Rattle.lid_clock_flat.specs.Rings.{around}
+use Rattle.lid_clock_flat.specs.Layings.{IsFlattened, IsLaidLast, StandsFlat, AreFlattened, DrainSome, AreMoversOf}
+use Rattle.lid_clock_flat.specs.Flats.{IsFlatAt, AreFlat, IsMover, AreMovers, AreNodesAt}
 use Rattle.lid_clock_flat.proofs.Writes.{wrapped_cases}
 use Rattle.lid_graph.specs.Firings.{firings}
 
-module _ (stations : List ClockStation) (n : ℕ) (c : ClockStation) (old new : FlatStations) (was : AreLaid stations n old) (at : slice_get stations n ≡ Some c) (last : IsLaidLast c old new) where
+module _ (stations : List ClockStation) (n : ℕ) (c : ClockStation) (old new : FlatStations) (was : AreFlattened stations n old) (at : slice_get stations n ≡ Some c) (last : IsLaidLast c old new) where
   longer : length new.places.items ≡ length old.places.items + length c.places.items
   longer = ap length last.places ∙ length-append old.places.items c.places.items
 
-  new_is : IsLaid (length old.places.items) c last.station
+  new_is : IsFlattened (length old.places.items) c last.station
   new_is = last.is
 
   -- what was laid before stands as it did
@@ -44,7 +44,7 @@ module _ (stations : List ClockStation) (n : ℕ) (c : ClockStation) (old new : 
 
   this : StandsFlat new.places.items c last.station
   this = record {
-    is = subst (λ (b : ℕ). IsLaid b c last.station) (sym new_is.base) new_is;
+    is = subst (λ (b : ℕ). IsFlattened b c last.station) (sym new_is.base) new_is;
     tokens = λ i less.
         ap (λ (xs : List ℕ). get_or xs (last.station.base + i) 0) last.places
         ∙ ap (λ (b : ℕ). get_or (old.places.items ++ c.places.items) (b + i) 0) new_is.base
@@ -68,7 +68,7 @@ module _ (stations : List ClockStation) (n : ℕ) (c : ClockStation) (old new : 
       ]
 
   -- so one more is laid
-  pub laid_next : AreLaid stations (n + 1) new
+  pub laid_next : AreFlattened stations (n + 1) new
   laid_next = record {
     many = ap length last.all ∙ length_push old.all.items last.station ∙ ap (λ (m : ℕ). m + 1) was.many;
     apart = record { there = within; apart = own_places };
@@ -106,7 +106,7 @@ first_at n xs i x at =
     ∙ ap (λ y. Some y) (sym (get_or-take n xs i x (omega (arith, few))) ∙ get_or_from_slice_get (take n xs) i x x at)
 
 module _ (r : RunsGoByRules) (l : Life) (life : IsLife l) where
-  flat_one : (s : ℕ) (places : List ℕ) (c : ClockStation) (y : FlatStation) → IsStation l s (put_after l 0 s) (taken_after l 0 s) c → StandsFlat places c y → IsFlat l 0 s places y
+  flat_one : (s : ℕ) (places : List ℕ) (c : ClockStation) (y : FlatStation) → IsStation l s (put_after l 0 s) (taken_after l 0 s) c → StandsFlat places c y → IsFlatAt l 0 s places y
   flat_one s places c y is stands =
       let none : taken_after l 0 s ≡ 0 = none_fired l _ in
       let put : c.put ≡ put_after l 0 s = is.put_is in
@@ -122,7 +122,7 @@ module _ (r : RunsGoByRules) (l : Life) (life : IsLife l) where
         holds = omega arith;
         tokens = λ i less.
             let low : i < length c.places.items = omega arith in
-            let place : wrapped (y.head + i) y.cap ≡ i = elim (wrapped_cases (y.head + i) y.cap) [
+            let place : around (y.head + i) y.cap ≡ i = elim (wrapped_cases (y.head + i) y.cap) [
               | inl h ↦ omega (arith, h.1, laid.head)
               | inr h ↦ absurd (omega (arith, h.0, laid.head))
             ] in
@@ -136,7 +136,7 @@ module _ (r : RunsGoByRules) (l : Life) (life : IsLife l) where
       }
 
   -- all stations that were laid
-  pub laid_flat : (stations : List ClockStation) (x : FlatStations) → AreStations l 0 stations → AreLaid stations (length stations) x → AreFlat l 0 x.all.items x.places.items
+  pub laid_flat : (stations : List ClockStation) (x : FlatStations) → AreStations l 0 stations → AreFlattened stations (length stations) x → AreFlat l 0 x.all.items x.places.items
   laid_flat stations x are laid = record {
     many = laid.many ∙ are.many;
     apart = laid.apart;
@@ -174,7 +174,7 @@ module _ (r : RunsGoByRules) (l : Life) (life : IsLife l) where
   }
 
   -- the nodes are the first actors
-  pub first_nodes : (g n : ℕ) (actors : List ClockActor) → n ≡ length l.setup.system.nodes → AreActors l 0 g actors → AreNodes l 0 g (take n actors)
+  pub first_nodes : (g n : ℕ) (actors : List ClockActor) → n ≡ length l.setup.system.nodes → AreActors l 0 g actors → AreNodesAt l 0 g (take n actors)
   first_nodes g n actors is are = record {
     many = length-take-le n actors (let count = are.many in omega arith) ∙ is;
     each = λ v a at. are.each v a (first_at n actors v a at);

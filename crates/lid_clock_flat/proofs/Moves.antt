@@ -18,7 +18,7 @@ use Rattle.lid_clock_flat.specs.declared.stations.FlatStations.{FlatStations}
 use Rattle.lid_clock_flat.specs.declared.mover.FlatMover.{FlatMover}
 use Rattle.lid_clock_flat.specs.Rings.{place_at, token_on}
 use Rattle.lid_clock_flat.specs.Moves.{AreBeside, SeesNoBar, SeesBar, HasMoved}
-use Rattle.lid_clock_flat.specs.Flats.{IsFlat, AreFlat, IsMover, MoverBegins, MoverDecided}
+use Rattle.lid_clock_flat.specs.Flats.{IsFlatAt, AreFlat, IsMover, MoverBegins, MoverDecided}
 use Rattle.lid_clock_flat.proofs.Writes.{written, kept, free_kept, as_many}
 use Rattle.lid_clock_flat.proofs.Keeping.{none_written}
 use Rattle.lid_clock_flat.proofs.Firing.{oldest_is}
@@ -63,10 +63,10 @@ module _ (r : RunsGoByRules) (l : Life) (k v : ℕ) (m : FlatMover) (x : FlatSta
   to : (y : FlatStation) × (slice_get x.all.items (m.station + 1) ≡ Some y)
   to = item_at x.all.items (m.station + 1) beside
 
-  from_is : IsFlat l k m.station x.places.items from.0
+  from_is : IsFlatAt l k m.station x.places.items from.0
   from_is = flat.each m.station from.0 from.1
 
-  to_is : IsFlat l k (m.station + 1) x.places.items to.0
+  to_is : IsFlatAt l k (m.station + 1) x.places.items to.0
   to_is = flat.each (m.station + 1) to.0 to.1
 
   taken_is : taken_after l k m.station ≡ fired_after l k v

@@ -5,7 +5,7 @@ use Rattle.std.proofs.lemmas.Option.{same_Some}
 use Rattle.lid_base.proofs.Places.{item_at}
 use Rattle.lid_clock_flat.specs.declared.station.FlatStation.{FlatStation}
 use Rattle.lid_clock_flat.specs.declared.stations.FlatStations.{FlatStations}
-use Rattle.lid_clock_flat.specs.Rings.{place_at, token_on, AreApart}
+use Rattle.lid_clock_flat.specs.Rings.{place_at, token_on, RingsAreApart}
 use Rattle.lid_clock_flat.specs.Reads.{AreThere, AreReadOnce, AllHaveRoom, AreOffered}
 use Rattle.lid_clock_flat.proofs.Writes.{written, kept, free_kept, as_many, apart_over}
 use mathlib.Core.Logic.{dite}
@@ -13,7 +13,7 @@ use native.Mathlib.Decide.{ℕ_discrete}
 
 -- one more
 pub offered_next : (reads tokens : List ℕ) (i token : ℕ) (old now new : FlatStations) → i < length reads → AreThere reads old.all.items → AreReadOnce reads → AllHaveRoom reads old.all.items
-    → AreApart old.all.items old.places.items → AreOffered reads tokens i old now → token ≡ get_or tokens i 0 → new.all ≡ now.all
+    → RingsAreApart old.all.items old.places.items → AreOffered reads tokens i old now → token ≡ get_or tokens i 0 → new.all ≡ now.all
     → ((x : FlatStation) → slice_get now.all.items (get_or reads i 0) ≡ Some x → new.places.items ≡ set now.places.items (place_at x x.held) token)
     → AreOffered reads tokens (i + 1) old new
 offered_next reads tokens i token old now new within there once room apart was is all places =
@@ -23,7 +23,7 @@ offered_next reads tokens i token old now new within there once room apart was i
     let at : slice_get old.all.items t ≡ Some x = found.1 in
     let items : now.all.items ≡ old.all.items = ap (λ v. v.items) was.all in
     let set_so : new.places.items ≡ set now.places.items (place_at x x.held) token = places x (ap (λ (xs : List FlatStation). slice_get xs t) items ∙ at) in
-    let still : AreApart old.all.items now.places.items = apart_over old.all.items old.places.items now.places.items apart was.many in
+    let still : RingsAreApart old.all.items now.places.items = apart_over old.all.items old.places.items now.places.items apart was.many in
     let free : x.held < x.cap = room i within x at in
     record {
       all = all ∙ was.all;

@@ -13,9 +13,9 @@ use Rattle.lid_clock.specs.States.{token_of_life, put_after, taken_after, actors
 use Rattle.lid_clock.proofs.Settled.{had_room, had_token}
 use Rattle.lid_clock_flat.specs.declared.station.FlatStation.{FlatStation}
 use Rattle.lid_clock_flat.specs.declared.stations.FlatStations.{FlatStations}
-use Rattle.lid_clock_flat.specs.Rings.{wrapped, token_on, AreApart, HasSettled}
+use Rattle.lid_clock_flat.specs.Rings.{around, token_on, RingsAreApart, StationSettles}
 use Rattle.lid_clock_flat.specs.Reads.{CanSettle, Settles, AllSettle}
-use Rattle.lid_clock_flat.specs.Flats.{IsFlat, AreFlat, Chose, HaveDecided}
+use Rattle.lid_clock_flat.specs.Flats.{IsFlatAt, AreFlat, Chose, HaveDecided}
 use Rattle.lid_clock_flat.proofs.Writes.{next_place}
 
 -- how often an actor has fired after the cycle
@@ -23,10 +23,10 @@ pub fired_then : (l : Life) (k v : ℕ) (w : Bool) → Chose l k v w → fired_a
 fired_then l k v true chose = chose.goes refl
 fired_then l k v false chose = let same : fired_after l (suc k) v ≡ fired_after l k v = chose.rests refl in omega arith
 
-module _ (l : Life) (k s : ℕ) (places : List ℕ) (x y : FlatStation) (gains loses : Bool) (is : IsFlat l k s places x)
+module _ (l : Life) (k s : ℕ) (places : List ℕ) (x y : FlatStation) (gains loses : Bool) (is : IsFlatAt l k s places x)
     (fills : fired_after l (suc k) (filler (links_of l.setup.system) l.setup.placement s) ≡ fired_after l k (filler (links_of l.setup.system) l.setup.placement s) + cond gains 1 0)
     (drains : fired_after l (suc k) (drainer (links_of l.setup.system) l.setup.placement s) ≡ fired_after l k (drainer (links_of l.setup.system) l.setup.placement s) + cond loses 1 0)
-    (room : gains ≡ true → x.held < x.cap) (offered : gains ≡ true → token_on places x x.held ≡ token_of_life l s (put_after l k s)) (settled : HasSettled x gains loses y) where
+    (room : gains ≡ true → x.held < x.cap) (offered : gains ≡ true → token_on places x x.held ≡ token_of_life l s (put_after l k s)) (settled : StationSettles x gains loses y) where
   -- the tokens that it held, and the one that it gained
   token_there : (j : ℕ) → (j < x.held) ⊎ ((gains ≡ true) × (j ≡ x.held)) → token_on places x j ≡ token_of_life l s (taken_after l k s + j)
   token_there j (inl less) = is.tokens j less
@@ -57,7 +57,7 @@ module _ (l : Life) (k s : ℕ) (places : List ℕ) (x y : FlatStation) (gains l
   token_then i less = by loses refl where
     by : (b : Bool) → loses ≡ b → token_on places y i ≡ token_of_life l s (taken_after l (suc k) s + i)
     by true e =
-        let head : y.head ≡ wrapped (x.head + 1) x.cap = settled.head ∙ ap (λ (b : Bool). cond b (wrapped (x.head + 1) x.cap) x.head) e in
+        let head : y.head ≡ around (x.head + 1) x.cap = settled.head ∙ ap (λ (b : Bool). cond b (around (x.head + 1) x.cap) x.head) e in
         let one : cond {A = ℕ} loses 1 0 ≡ 1 = ap (λ (b : Bool). cond {A = ℕ} b 1 0) e in
         let many : y.held + cond loses 1 0 ≡ x.held + cond gains 1 0 = settled.many in
         let low : i + 1 < x.held + cond gains 1 0 = omega arith in
@@ -66,19 +66,19 @@ module _ (l : Life) (k s : ℕ) (places : List ℕ) (x y : FlatStation) (gains l
         ∙ token_there (i + 1) (number_is (i + 1) low)
         ∙ ap (token_of_life l s) number
     by false e =
-        let head : y.head ≡ x.head = settled.head ∙ ap (λ (b : Bool). cond b (wrapped (x.head + 1) x.cap) x.head) e in
+        let head : y.head ≡ x.head = settled.head ∙ ap (λ (b : Bool). cond b (around (x.head + 1) x.cap) x.head) e in
         let none : cond {A = ℕ} loses 1 0 ≡ 0 = ap (λ (b : Bool). cond {A = ℕ} b 1 0) e in
         let many : y.held + cond loses 1 0 ≡ x.held + cond gains 1 0 = settled.many in
         let low : i < x.held + cond gains 1 0 = omega arith in
         let number : taken_after l k s + i ≡ taken_after l (suc k) s + i = omega (arith, drains) in
-        ap (λ (n : ℕ). get_or places (n + wrapped (y.head + i) y.cap) 0) settled.base
-        ∙ ap (λ (n : ℕ). get_or places (x.base + wrapped (n + i) y.cap) 0) head
-        ∙ ap (λ (n : ℕ). get_or places (x.base + wrapped (x.head + i) n) 0) settled.cap
+        ap (λ (n : ℕ). get_or places (n + around (y.head + i) y.cap) 0) settled.base
+        ∙ ap (λ (n : ℕ). get_or places (x.base + around (n + i) y.cap) 0) head
+        ∙ ap (λ (n : ℕ). get_or places (x.base + around (x.head + i) n) 0) settled.cap
         ∙ token_there i (number_is i low)
         ∙ ap (token_of_life l s) number
 
   -- it is the station of the next cycle
-  pub settled_flat : IsFlat l (suc k) s places y
+  pub settled_flat : IsFlatAt l (suc k) s places y
   settled_flat =
       let many : y.held + cond loses 1 0 ≡ x.held + cond gains 1 0 = settled.many in
       let held : put_after l k s ≡ taken_after l k s + x.held = is.holds in
@@ -91,7 +91,7 @@ module _ (l : Life) (k s : ℕ) (places : List ℕ) (x y : FlatStation) (gains l
       }
 
 -- stations that settle stay apart
-pub apart_still : (old new : List FlatStation) (places : List ℕ) (went : List Bool) → AllSettle went old new → AreApart old places → AreApart new places
+pub apart_still : (old new : List FlatStation) (places : List ℕ) (went : List Bool) → AllSettle went old new → RingsAreApart old places → RingsAreApart new places
 apart_still old new places went settles apart = record {
   there = λ s y at. let x = was s y at in let same = settles.each s x.0 y x.1 at in omega (arith, same.base, same.cap, apart.there s x.0 x.1);
   apart = λ s t y z at later less.
@@ -114,7 +114,7 @@ module _ (r : RunsGoByRules) (l : Life) (k : ℕ) (x : FlatStations) (went : Lis
     here : s < stations_of l
     here = let within = slice_get_within x.all.items s y at in let many = have.flat.many in omega arith
 
-    is : IsFlat l k s x.places.items y
+    is : IsFlatAt l k s x.places.items y
     is = have.flat.each s y at
 
     between : StandsBetween l.setup.system l.setup.placement s
@@ -157,7 +157,7 @@ module _ (r : RunsGoByRules) (l : Life) (k : ℕ) (x : FlatStations) (went : Lis
         let fired : slice_get went y.filler ≡ Some true = slice_get-get_or went y.filler false (omega (arith, filler_there, have.many)) ∙ ap (λ (b : Bool). Some b) e in
         have.offers y.filler filler_there fired s y at refl
 
-    pub settles_flat : (z : FlatStation) → Settles went y z → IsFlat l (suc k) s x.places.items z
+    pub settles_flat : (z : FlatStation) → Settles went y z → IsFlatAt l (suc k) s x.places.items z
     settles_flat z settles = settled_flat l k s x.places.items y z (get_or went y.filler false) (get_or went y.drainer false) is filler_fired drainer_fired can_settle.room offered settles
 
   -- all stations are those of the next cycle

@@ -2,7 +2,7 @@
 use Rattle.std.proofs.Common.{◌≡◌, ◌⊎◌, inl, inr, ℕ, suc, ◌+◌, ◌<◌, ◌≤◌, ◌||◌, cond, slice_get, sym, ◌∙◌, ap, subst, add-one, arith}
 use Rattle.std.proofs.lemmas.Bool.{cases_lt}
 use Rattle.lid_clock.specs.Lives.{Life, IsBelow}
-use Rattle.lid_stall.specs.Places.{due_of, place_after, Divides}
+use Rattle.lid_stall.specs.Places.{due_of, next_place, Divides}
 use Rattle.lid_stall.proofs.Walking.{divides_on, counted_moves}
 use Rattle.lid_stall.proofs.Delays.{counts_on}
 use Rattle.lid_clock_flat.specs.declared.run.FlatRun.{FlatRun}
@@ -11,7 +11,7 @@ use Rattle.lid_clock_flat.specs.Runs.{FlatRan}
 use Rattle.lid_clock_flat.specs.Clocks.{RanFlat}
 
 pub cycled : (l : Life) (k g : ℕ) (h : FlatClock) → RanFlat l k g h → IsBelow l k → (run : FlatRun) → FlatRan l (suc k) g run → (next counted : ℕ)
-    → next ≡ place_after (slice_get h.stalls h.next) h.next h.made
+    → next ≡ next_place (slice_get h.stalls h.next) h.next h.made
     → counted ≡ cond ((due_of (slice_get h.stalls h.next) h.made).source || (due_of (slice_get h.stalls h.next) h.made).sink) 1 0
     → RanFlat l (suc k) g (record { run = run; stalls = h.stalls; next = next; made = h.made + 1; stalled = h.stalled + counted })
 cycled l k g h held below run ran next counted moves counts = record {
@@ -25,8 +25,8 @@ cycled l k g h held below run ran next counted moves counts = record {
   needed = λ j less. by_order j less (cases_lt j k);
 }
   where
-    moved : next ≡ place_after (slice_get h.stalls h.next) h.next k
-    moved = moves ∙ ap (λ (n : ℕ). place_after (slice_get h.stalls h.next) h.next n) held.made_is
+    moved : next ≡ next_place (slice_get h.stalls h.next) h.next k
+    moved = moves ∙ ap (λ (n : ℕ). next_place (slice_get h.stalls h.next) h.next n) held.made_is
 
     counted_is : counted ≡ cond ((due_of (slice_get h.stalls h.next) k).source || (due_of (slice_get h.stalls h.next) k).sink) 1 0
     counted_is = counts ∙ ap (λ (n : ℕ). cond ((due_of (slice_get h.stalls h.next) n).source || (due_of (slice_get h.stalls h.next) n).sink) 1 0) held.made_is

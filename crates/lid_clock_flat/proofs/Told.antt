@@ -15,7 +15,7 @@ use Rattle.lid_clock_flat.specs.declared.station.FlatStation.{FlatStation}
 use Rattle.lid_clock_flat.specs.declared.mover.FlatMover.{FlatMover}
 use Rattle.lid_clock_flat.specs.declared.run.FlatRun.{FlatRun}
 use Rattle.lid_clock_flat.specs.Rings.{token_on}
-use Rattle.lid_clock_flat.specs.Flats.{IsFlat}
+use Rattle.lid_clock_flat.specs.Flats.{IsFlatAt}
 use Rattle.lid_clock_flat.specs.Runs.{FlatRan}
 use Rattle.lid_clock_flat.proofs.Firing.{oldest_is}
 
@@ -88,7 +88,7 @@ some_held taken held = elim (cases_lt 0 held) [
 ]
 
 -- what a station of a life shows
-pub shown_is : (l : Life) (k s : ℕ) (places : List ℕ) (x : FlatStation) → IsFlat l k s places x
+pub shown_is : (l : Life) (k s : ℕ) (places : List ℕ) (x : FlatStation) → IsFlatAt l k s places x
     → shown_as x.cap x.held 0 (token_on places x) ≡ shown_as (capacity l.setup.placement s) (put_after l k s) (taken_after l k s) (token_of_life l s)
 shown_is l k s places x is =
     let holds : put_after l k s ≡ taken_after l k s + x.held = is.holds in

@@ -11,9 +11,6 @@ pub record Turned {X : Type 0} (P Q : ℕ → X → Type 0) (i : ℕ) (xs : List
   pub before : (j : ℕ) (x : X) → j < i → slice_get xs j ≡ Some x → P j x
   pub after : (j : ℕ) (x : X) → i ≤ j → slice_get xs j ≡ Some x → Q j x
 
-pub none_turned : {X : Type 0} (P Q : ℕ → X → Type 0) (xs : List X) → ((j : ℕ) (x : X) → slice_get xs j ≡ Some x → Q j x) → Turned P Q 0 xs
-none_turned P Q xs each = record { before = λ j x less at. absurd (omega arith); after = λ j x from at. each j x at }
-
 pub one_turned : {X : Type 0} (P Q : ℕ → X → Type 0) (i : ℕ) (xs : List X) (y : X) → Turned P Q i xs → P i y → Turned P Q (i + 1) (set xs i y)
 one_turned P Q i xs y turned is = record {
   before = λ j x less at.
@@ -22,6 +19,3 @@ one_turned P Q i xs y turned is = record {
       (λ other. turned.before j x (omega arith) (sym (set_there xs i j y other) ∙ at));
   after = λ j x from at. turned.after j x (omega arith) (sym (set_there xs i j y (λ same. omega arith)) ∙ at);
 }
-
-pub all_turned : {X : Type 0} (P Q : ℕ → X → Type 0) (i : ℕ) (xs : List X) → Turned P Q i xs → length xs ≤ i → (j : ℕ) (x : X) → slice_get xs j ≡ Some x → P j x
-all_turned P Q i xs turned past j x at = let within = slice_get_within xs j x at in turned.before j x (omega arith) at

@@ -8,10 +8,10 @@ use Rattle.lid_clock.specs.States.{ins_of, outs_of, token_of_life, put_after, ta
 use Rattle.lid_clock_flat.specs.declared.station.FlatStation.{FlatStation}
 use Rattle.lid_clock_flat.specs.declared.stations.FlatStations.{FlatStations}
 use Rattle.lid_clock_flat.specs.declared.mover.FlatMover.{FlatMover}
-use Rattle.lid_clock_flat.specs.Rings.{token_on, AreApart}
+use Rattle.lid_clock_flat.specs.Rings.{token_on, RingsAreApart}
 
 -- a station as cycle k begins
-pub record IsFlat (l : Life) (k station : ℕ) (places : List ℕ) (x : FlatStation) : Type 0 where
+pub record IsFlatAt (l : Life) (k station : ℕ) (places : List ℕ) (x : FlatStation) : Type 0 where
   pub filled : x.filler ≡ filler (links_of l.setup.system) l.setup.placement station
   pub drained : x.drainer ≡ drainer (links_of l.setup.system) l.setup.placement station
   pub size : x.cap ≡ capacity l.setup.placement station
@@ -21,8 +21,8 @@ pub record IsFlat (l : Life) (k station : ℕ) (places : List ℕ) (x : FlatStat
 -- all stations
 pub record AreFlat (l : Life) (k : ℕ) (all : List FlatStation) (places : List ℕ) : Type 0 where
   pub many : length all ≡ stations_of l
-  pub apart : AreApart all places
-  pub each : (s : ℕ) (x : FlatStation) → slice_get all s ≡ Some x → IsFlat l k s places x
+  pub apart : RingsAreApart all places
+  pub each : (s : ℕ) (x : FlatStation) → slice_get all s ≡ Some x → IsFlatAt l k s places x
 
 -- a mover: it drains a station, and fills the next one
 pub record IsMover (l : Life) (k v : ℕ) (m : FlatMover) : Type 0 where
@@ -38,7 +38,7 @@ pub record AreMovers (l : Life) (k : ℕ) (movers : List FlatMover) : Type 0 whe
   pub each : (j : ℕ) (m : FlatMover) → slice_get movers j ≡ Some m → IsMover l k (length l.setup.system.nodes + j) m
 
 -- all nodes
-pub record AreNodes (l : Life) (k g : ℕ) (nodes : List ClockActor) : Type 0 where
+pub record AreNodesAt (l : Life) (k g : ℕ) (nodes : List ClockActor) : Type 0 where
   pub many : length nodes ≡ length l.setup.system.nodes
   pub each : (v : ℕ) (a : ClockActor) → slice_get nodes v ≡ Some a → IsActor l g v (fired_after l k v) a
 
@@ -66,7 +66,7 @@ pub record HaveDecided (l : Life) (k n : ℕ) (x : FlatStations) (went : List Bo
   pub offers : (v : ℕ) → v < n → slice_get went v ≡ Some true → Offers l k v x
 
 -- an actor that has decided, and what it has put
-pub record Steps (l : Life) (k v : ℕ) (went : Bool) (old new : FlatStations) : Type 0 where
+pub record StationsStep (l : Life) (k v : ℕ) (went : Bool) (old new : FlatStations) : Type 0 where
   pub chose : Chose l k v went
   pub alone : WritesAlone v old new
   pub offers : went ≡ true → Offers l k v new
@@ -82,13 +82,13 @@ pub record NodeBegins (l : Life) (k g v : ℕ) (held : Bool) (a : ClockActor) (x
 pub record NodeDecided (l : Life) (k g v : ℕ) (went : Bool) (a : ClockActor) (old new : FlatStations) : Type 0 where
   pub decided : Decided l k g v a
   pub is : a.went ≡ went
-  pub steps : Steps l k v went old new
+  pub steps : StationsStep l k v went old new
 
 -- all nodes as cycle k begins
 pub record NodesBegin (l : Life) (k g : ℕ) (source last : Bool) (nodes : List ClockActor) (x : FlatStations) (went : List Bool) : Type 0 where
   pub begins : MayBegin l k g
   pub holds : Holds l k source last
-  pub all : AreNodes l k g nodes
+  pub all : AreNodesAt l k g nodes
   pub beside : AreFlat l k x.all.items x.places.items
   pub many : length went ≡ actors_of l
 
@@ -109,7 +109,7 @@ pub record MoverBegins (l : Life) (k v : ℕ) (m : FlatMover) (x : FlatStations)
 -- and after its decision
 pub record MoverDecided (l : Life) (k v : ℕ) (went : Bool) (m : FlatMover) (old new : FlatStations) : Type 0 where
   pub mover : IsMover l (suc k) v m
-  pub steps : Steps l k v went old new
+  pub steps : StationsStep l k v went old new
 
 -- all movers, after the first i of them have decided, and all nodes before
 pub record MoversDecided (l : Life) (k i : ℕ) (movers : List FlatMover) (x : FlatStations) (went : List Bool) : Type 0 where

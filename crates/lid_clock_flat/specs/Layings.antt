@@ -5,14 +5,14 @@ use Rattle.lid_clock.specs.declared.station.ClockStation.{ClockStation}
 use Rattle.lid_clock_flat.specs.declared.station.FlatStation.{FlatStation}
 use Rattle.lid_clock_flat.specs.declared.stations.FlatStations.{FlatStations}
 use Rattle.lid_clock_flat.specs.declared.mover.FlatMover.{FlatMover}
-use Rattle.lid_clock_flat.specs.Rings.{AreApart}
+use Rattle.lid_clock_flat.specs.Rings.{RingsAreApart}
 
 -- no token was taken yet
 abbrev pub AreEmptied : List ClockStation → Type 0
 AreEmptied stations = (s : ℕ) (c : ClockStation) → slice_get stations s ≡ Some c → c.taken ≡ 0
 
 -- a station laid flat, with its places from a base on
-pub record IsLaid (start : ℕ) (c : ClockStation) (y : FlatStation) : Type 0 where
+pub record IsFlattened (start : ℕ) (c : ClockStation) (y : FlatStation) : Type 0 where
   pub filler : y.filler ≡ c.filler
   pub drainer : y.drainer ≡ c.drainer
   pub base : y.base ≡ start
@@ -23,19 +23,19 @@ pub record IsLaid (start : ℕ) (c : ClockStation) (y : FlatStation) : Type 0 wh
 -- one more station was laid
 pub record IsLaidLast (c : ClockStation) (old new : FlatStations) : Type 0 where
   pub station : FlatStation
-  pub is : IsLaid (length old.places.items) c station
+  pub is : IsFlattened (length old.places.items) c station
   pub all : new.all.items ≡ old.all.items ++ station ∷ []
   pub places : new.places.items ≡ old.places.items ++ c.places.items
 
 -- a station that was laid, of which the places are those of the ring
 pub record StandsFlat (places : List ℕ) (c : ClockStation) (y : FlatStation) : Type 0 where
-  pub is : IsLaid y.base c y
+  pub is : IsFlattened y.base c y
   pub tokens : (i : ℕ) → i < length c.places.items → get_or places (y.base + i) 0 ≡ get_or c.places.items i 0
 
 -- the first n stations were laid
-pub record AreLaid (stations : List ClockStation) (n : ℕ) (x : FlatStations) : Type 0 where
+pub record AreFlattened (stations : List ClockStation) (n : ℕ) (x : FlatStations) : Type 0 where
   pub many : length x.all.items ≡ n
-  pub apart : AreApart x.all.items x.places.items
+  pub apart : RingsAreApart x.all.items x.places.items
   pub long : length x.places.items ≤ 16 * n
   pub each : (s : ℕ) (y : FlatStation) → slice_get x.all.items s ≡ Some y → (c : ClockStation) × (slice_get stations s ≡ Some c) × StandsFlat x.places.items c y
 

@@ -2,7 +2,7 @@
 use Rattle.std.specs.Prelude.{◌≡◌, ◌≢◌, ℕ, ◌<◌, Bool, true, false, List, length, get_or, Some, slice_get}
 use Rattle.lid_clock_flat.specs.declared.station.FlatStation.{FlatStation}
 use Rattle.lid_clock_flat.specs.declared.stations.FlatStations.{FlatStations}
-use Rattle.lid_clock_flat.specs.Rings.{token_on, HasSettled}
+use Rattle.lid_clock_flat.specs.Rings.{token_on, StationSettles}
 
 -- each station that is read exists
 abbrev pub AreThere : List ℕ → List FlatStation → Type 0
@@ -61,7 +61,7 @@ pub record CanSettle (went : List Bool) (x : FlatStation) : Type 0 where
 
 -- a station has settled where these actors fired
 abbrev pub Settles : List Bool → FlatStation → FlatStation → Type 0
-Settles went old new = HasSettled old (get_or went old.filler false) (get_or went old.drainer false) new
+Settles went old new = StationSettles old (get_or went old.filler false) (get_or went old.drainer false) new
 
 -- all stations have settled
 pub record AllSettle (went : List Bool) (old new : List FlatStation) : Type 0 where

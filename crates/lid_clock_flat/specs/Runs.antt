@@ -9,7 +9,7 @@ use Rattle.lid_clock.specs.States.{actors_of, IsLatest}
 use Rattle.lid_clock_flat.specs.declared.run.FlatRun.{FlatRun}
 use Rattle.lid_clock_flat.specs.declared.stations.FlatStations.{FlatStations}
 use Rattle.lid_clock_flat.specs.Layings.{AreMoversOf}
-use Rattle.lid_clock_flat.specs.Flats.{AreFlat, AreMovers, AreNodes}
+use Rattle.lid_clock_flat.specs.Flats.{AreFlat, AreMovers, AreNodesAt}
 
 -- a run after k cycles and g given rows of a life
 pub record FlatRan (l : Life) (k g : ℕ) (x : FlatRun) : Type 0 where
@@ -17,7 +17,7 @@ pub record FlatRan (l : Life) (k g : ℕ) (x : FlatRun) : Type 0 where
   pub rows_are : x.rows ≡ length l.setup.input
   pub given_is : x.given ≡ g
   pub few : g ≤ length l.setup.input
-  pub all_nodes : AreNodes l k g x.nodes.items
+  pub all_nodes : AreNodesAt l k g x.nodes.items
   pub all_movers : AreMovers l k x.movers.items
   pub all_stations : AreFlat l k x.stations.all.items x.stations.places.items
   pub flags : length x.went.items ≡ actors_of l
@@ -32,11 +32,11 @@ abbrev pub CanCycle : FlatRun → Type 0
 CanCycle x = (l : Life) × (k : ℕ) × (g : ℕ) × FlatRan l k g x × ¬ (NeedsRow l k g)
 
 -- a run of some life that was built, and has made no cycle; it has so many nodes
-abbrev pub IsBuilt : ClockStream → ℕ → Type 0
-IsBuilt x count = (l : Life) × (g : ℕ) × Ran l 0 g x × (count ≡ length l.setup.system.nodes)
+abbrev pub IsJustStarted : ClockStream → ℕ → Type 0
+IsJustStarted x count = (l : Life) × (g : ℕ) × Ran l 0 g x × (count ≡ length l.setup.system.nodes)
 
 -- a run of these actors, of which so many are nodes, and of these stations
-pub record IsRunOf (actors : List ClockActor) (stations : FlatStations) (count rows : ℕ) (x : FlatRun) : Type 0 where
+pub record IsFlatRunOf (actors : List ClockActor) (stations : FlatStations) (count rows : ℕ) (x : FlatRun) : Type 0 where
   pub nodes : x.nodes.items ≡ take count actors
   pub movers : AreMoversOf count (length actors) actors x.movers.items
   pub stations_are : x.stations ≡ stations

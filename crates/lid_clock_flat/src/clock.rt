@@ -8,7 +8,7 @@ ghost use Rattle.lid_clock.specs.Lives.{Life, StartsSo, NeedsRow, IsBelow, IsLas
 ghost use Rattle.lid_shell_laws.specs.Setups.{IsInputRow};
 ghost use Rattle.lid_clock.specs.Ran.{lent, IsFirstRow};
 ghost use Rattle.lid_stall_text.specs.Holds.{Ascend};
-ghost use Rattle.lid_stall.specs.Places.{due_of, place_after};
+ghost use Rattle.lid_stall.specs.Places.{due_of, next_place};
 ghost use Rattle.lid_stall.specs.Runs.{IsHeldBy, IsOverBy, stalled_after};
 ghost use Rattle.lid_clock_flat.specs.Clocks.{RanFlat};
 
@@ -48,7 +48,7 @@ fn due(stalls: &[Stall], place: usize, cycle: u64) -> Stall
 
 /// The place of the next stall after a cycle.
 fn after(stalls: &[Stall], place: usize, cycle: u64) -> usize
-    ensures { result ≡ place_after (slice_get stalls.now place) place cycle }
+    ensures { result ≡ next_place (slice_get stalls.now place) place cycle }
 {
     match stalls.get(place) {
         Some(stall) if stall.cycle == cycle => place + 1,

@@ -6,8 +6,8 @@ ghost use Rattle.lid_stations.specs.Placements.{Fits};
 ghost use Rattle.lid_clock.specs.declared.actor.ClockActor.{ClockActor};
 ghost use Rattle.lid_clock.specs.Lives.{Life, StartsSo};
 ghost use Rattle.lid_clock.specs.Ran.{Ran, lent, IsFirstRow};
-ghost use Rattle.lid_clock_flat.specs.Layings.{AreEmptied, IsLaidLast, AreLaid, DrainSome, AreMoversOf};
-ghost use Rattle.lid_clock_flat.specs.Runs.{FlatRan, IsBuilt, IsRunOf};
+ghost use Rattle.lid_clock_flat.specs.Layings.{AreEmptied, IsLaidLast, AreFlattened, DrainSome, AreMoversOf};
+ghost use Rattle.lid_clock_flat.specs.Runs.{FlatRan, IsJustStarted, IsFlatRunOf};
 
 use crate::mover::FlatMover;
 use crate::run::FlatRun;
@@ -42,7 +42,7 @@ fn lay(stations: &mut FlatStations, station: &ClockStation) -> Result<(), AllocE
 fn lay_all(alloc: Global, stations: &[ClockStation]) -> Result<FlatStations, AllocError>
     requires fresh { AreEmptied stations.now }
     requires few { length stations.now ≤ 65536 }
-    ensures { IfOk result (AreLaid stations.now (length stations.now)) }
+    ensures { IfOk result (AreFlattened stations.now (length stations.now)) }
 {
     let mut flat = FlatStations {
         all: Vec::new(alloc),
@@ -83,7 +83,7 @@ impl FlatRun {
         rows: u64,
     ) -> Result<FlatRun, AllocError>
         requires { DrainSome count actors.items }
-        ensures { IfOk result (IsRunOf actors.items stations count rows) }
+        ensures { IfOk result (IsFlatRunOf actors.items stations count rows) }
     {
         let movers = movers_of(alloc, actors.as_slice(), count)?;
         let went = Vec::from_elem(alloc, false, actors.len())?;
@@ -106,7 +106,7 @@ impl FlatRun {
         count: usize,
         rows: u64,
     ) -> Result<FlatRun, AllocError>
-        requires { IsBuilt stream count }
+        requires { IsJustStarted stream count }
         ensures { IfOk result (λ run. (l : Life) (g : ℕ) → Ran l 0 g stream → count ≡ length l.setup.system.nodes → rows ≡ length l.setup.input → g ≡ min 1 rows → FlatRan l 0 g run) }
     {
         runs_go_by_rules();

@@ -2,7 +2,7 @@
 
 ghost use Rattle.std.specs.Prelude.{◌≡◌, ℕ, ◌+◌, ◌<◌, ◌^◌, true, false, length};
 ghost use Rattle.lid_clock.specs.Lives.{Life};
-ghost use Rattle.lid_clock_flat.specs.Rings.{AreApart};
+ghost use Rattle.lid_clock_flat.specs.Rings.{RingsAreApart};
 ghost use Rattle.lid_clock_flat.specs.Flats.{MoverBegins, MoverDecided, MoversBegin, MoversDecided};
 ghost use Rattle.lid_clock_flat.specs.Moves.{SeesNoBar, SeesBar, AreBeside, HasMoved};
 
@@ -24,7 +24,7 @@ impl FlatMover {
     /// Moves a token on.
     fn go(&mut self, stations: &mut FlatStations)
         requires there { AreBeside self.old stations.old.all.items }
-        requires apart { AreApart stations.old.all.items stations.old.places.items }
+        requires apart { RingsAreApart stations.old.all.items stations.old.places.items }
         requires few { self.old.fired + 1 < 2 ^ 32 }
         ensures { HasMoved self.old stations.old self.new stations.new }
     {

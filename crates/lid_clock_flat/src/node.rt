@@ -3,7 +3,7 @@
 ghost use Rattle.std.specs.Prelude.{◌≡◌, ℕ, ◌+◌, ◌<◌, ◌^◌, Bool, true, false, length};
 ghost use Rattle.lid_clock.specs.Actors.{HasPlaces};
 ghost use Rattle.lid_clock.specs.Lives.{Life};
-ghost use Rattle.lid_clock_flat.specs.Rings.{AreApart};
+ghost use Rattle.lid_clock_flat.specs.Rings.{RingsAreApart};
 ghost use Rattle.lid_clock_flat.specs.Reads.{AreThere, AreReadOnce, AllHaveRoom};
 ghost use Rattle.lid_clock_flat.specs.Nodes.{SeesStations, SeesNoBar, SeesBar, IsHanded, NodeFires};
 ghost use Rattle.lid_clock_flat.specs.Flats.{NodeBegins, NodeDecided};
@@ -28,7 +28,7 @@ fn may_fire(node: &ClockActor, stations: &[FlatStation]) -> bool
 fn hand_tokens(node: &mut ClockActor, stations: &FlatStations)
     requires there { AreThere node.old.ins.items stations.now.all.items }
     requires many { length node.old.taken.items ≡ length node.old.ins.items }
-    requires apart { AreApart stations.now.all.items stations.now.places.items }
+    requires apart { RingsAreApart stations.now.all.items stations.now.places.items }
     ensures { IsHanded (length node.old.ins.items) node.old stations.now node.new }
 {
     for i in 0..node.drained().len() {
@@ -42,7 +42,7 @@ fn fire_node(node: &mut ClockActor, stations: &mut FlatStations)
     requires there { SeesStations node.old stations.old.all.items }
     requires once { AreReadOnce node.old.outs.items }
     requires room { AllHaveRoom node.old.outs.items stations.old.all.items }
-    requires apart { AreApart stations.old.all.items stations.old.places.items }
+    requires apart { RingsAreApart stations.old.all.items stations.old.places.items }
     requires places { HasPlaces node.old }
     requires few { node.old.fired + 1 < 2 ^ 64 }
     ensures { NodeFires node.old stations.old node.new stations.new }

@@ -1,7 +1,7 @@
 //! Stations that are read by their numbers.
 
 ghost use Rattle.std.specs.Prelude.{◌≡◌, ◌≤◌, true, false, length};
-ghost use Rattle.lid_clock_flat.specs.Rings.{AreApart};
+ghost use Rattle.lid_clock_flat.specs.Rings.{RingsAreApart};
 ghost use Rattle.lid_clock_flat.specs.Reads.{AreThere, AreReadOnce, AllHold, OneIsEmpty, AllHaveRoom, OneIsFull, AreOffered};
 
 use crate::station::FlatStation;
@@ -40,7 +40,7 @@ pub(crate) fn offer_all(reads: &[u32], tokens: &[u32], stations: &mut FlatStatio
     requires there { AreThere reads.now stations.old.all.items }
     requires once { AreReadOnce reads.now }
     requires room { AllHaveRoom reads.now stations.old.all.items }
-    requires apart { AreApart stations.old.all.items stations.old.places.items }
+    requires apart { RingsAreApart stations.old.all.items stations.old.places.items }
     requires many { length reads.now ≤ length tokens.now }
     ensures { AreOffered reads.now tokens.now (length reads.now) stations.old stations.new }
 {

@@ -1,14 +1,14 @@
 //! What is done at the ends of a station.
 
 ghost use Rattle.std.specs.Prelude.{◌≡◌, ◌<◌, true, false};
-ghost use Rattle.lid_clock_flat.specs.Rings.{wrapped, place_at, HasSettled};
+ghost use Rattle.lid_clock_flat.specs.Rings.{around, place_at, StationSettles};
 ghost use Rattle.lid_clock_flat.specs.Reads.{CanSettle, Settles};
 
 use crate::station::FlatStation;
 
 /// A place of a ring of so many, where the first one comes after the last.
 fn wrap(place: u32, cap: u32) -> u32
-    ensures { result ≡ wrapped place cap }
+    ensures { result ≡ around place cap }
 {
     if place < cap { place } else { place - cap }
 }
@@ -49,7 +49,7 @@ impl FlatStation {
     pub(crate) fn settle(&mut self, gains: bool, loses: bool)
         requires room { gains ≡ true → self.old.held < self.old.cap }
         requires some { loses ≡ true → 0 < self.old.held }
-        ensures { HasSettled self.old gains loses self.new }
+        ensures { StationSettles self.old gains loses self.new }
     {
         if loses {
             self.head = wrap(self.head + 1, self.cap);

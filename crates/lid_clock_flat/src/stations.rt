@@ -3,7 +3,7 @@
 ghost use Rattle.std.specs.Prelude.{◌≡◌, ◌<◌, length, set, Some, slice_get};
 ghost use Rattle.lid_clock_flat.specs.declared.station.FlatStation.{FlatStation};
 ghost use Rattle.lid_shell_laws.specs.Views.{shown_as};
-ghost use Rattle.lid_clock_flat.specs.Rings.{place_at, token_on, AreApart};
+ghost use Rattle.lid_clock_flat.specs.Rings.{place_at, token_on, RingsAreApart};
 
 use crate::station::FlatStation;
 use lid_base::Shown;
@@ -19,7 +19,7 @@ impl FlatStations {
     /// The oldest token of a station.
     pub(crate) fn oldest(&self, station: usize) -> u32
         requires there { station < length self.now.all.items }
-        requires apart { AreApart self.now.all.items self.now.places.items }
+        requires apart { RingsAreApart self.now.all.items self.now.places.items }
         ensures { (x : FlatStation) → slice_get self.now.all.items station ≡ Some x → result ≡ token_on self.now.places.items x 0 }
     {
         self.places[self.all[station].first_place()]
@@ -28,7 +28,7 @@ impl FlatStations {
     /// Writes a token into the free place of a station.
     pub(crate) fn offer(&mut self, station: usize, token: u32)
         requires there { station < length self.old.all.items }
-        requires apart { AreApart self.old.all.items self.old.places.items }
+        requires apart { RingsAreApart self.old.all.items self.old.places.items }
         ensures all { self.new.all ≡ self.old.all }
         ensures places { (x : FlatStation) → slice_get self.old.all.items station ≡ Some x → self.new.places.items ≡ set self.old.places.items (place_at x x.held) token }
     {
@@ -39,7 +39,7 @@ impl FlatStations {
     /// What a station shows.
     pub(crate) fn shown(&self, station: usize) -> Shown
         requires there { station < length self.now.all.items }
-        requires apart { AreApart self.now.all.items self.now.places.items }
+        requires apart { RingsAreApart self.now.all.items self.now.places.items }
         ensures { (x : FlatStation) → slice_get self.now.all.items station ≡ Some x → result ≡ shown_as x.cap x.held 0 (token_on self.now.places.items x) }
     {
         let valid = self.all[station].is_valid();

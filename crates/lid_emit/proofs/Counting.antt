@@ -6,18 +6,18 @@ use Rattle.std.proofs.lemmas.List.Sums.{sum_by-cons, count_by-le-length}
 use Rattle.std.proofs.lemmas.List.{length-append}
 use Rattle.std.proofs.Math.Nat.{pow-succ'}
 use Rattle.lid_emit_names.specs.Spelling.{IsFree}
-use Rattle.lid_emit.specs.Prefixes.{IsLonger, begins, count_with}
+use Rattle.lid_emit.specs.Prefixes.{IsLonger, begins_with, count_with}
 
 -- what a slice begins with
-pub starts_is : (prefix name : List ℕ) → starts_with nat_eq name prefix ≡ begins prefix name
+pub starts_is : (prefix name : List ℕ) → starts_with nat_eq name prefix ≡ begins_with prefix name
 starts_is [] name = refl
 starts_is (b ∷ prefix) [] = refl
 starts_is (b ∷ prefix) (c ∷ name) = ap (λ (later : Bool). (b == c) && later) (starts_is prefix name)
 
 -- a name begins with a prefix that it goes on from
-begins_so : (prefix rest : List ℕ) → begins prefix (prefix ++ rest) ≡ true
+begins_so : (prefix rest : List ℕ) → begins_with prefix (prefix ++ rest) ≡ true
 begins_so [] rest = refl
-begins_so (b ∷ prefix) rest = ap (λ (first : Bool). first && begins prefix (prefix ++ rest)) (eq-eqb b b refl) ∙ begins_so prefix rest
+begins_so (b ∷ prefix) rest = ap (λ (first : Bool). first && begins_with prefix (prefix ++ rest)) (eq-eqb b b refl) ∙ begins_so prefix rest
 
 abbrev pub bit : Bool → ℕ
 bit b = cond b 1 0
@@ -27,7 +27,7 @@ with_test true a b all h = h
 with_test false a b all h = omega arith
 
 -- a name goes on with one of two letters at most
-one_letter : (prefix name : List ℕ) → bit (begins (prefix ++ 97 ∷ []) name) + bit (begins (prefix ++ 98 ∷ []) name) ≤ bit (begins prefix name)
+one_letter : (prefix name : List ℕ) → bit (begins_with (prefix ++ 97 ∷ []) name) + bit (begins_with (prefix ++ 98 ∷ []) name) ≤ bit (begins_with prefix name)
 one_letter [] [] = omega arith
 one_letter [] (c ∷ name) = by (97 == c) refl (98 == c) refl
   where
@@ -37,16 +37,16 @@ one_letter [] (c ∷ name) = by (97 == c) refl (98 == c) refl
     by false e true f = omega arith
     by false e false f = omega arith
 one_letter (b ∷ prefix) [] = omega arith
-one_letter (b ∷ prefix) (c ∷ name) = with_test (b == c) (begins (prefix ++ 97 ∷ []) name) (begins (prefix ++ 98 ∷ []) name) (begins prefix name) (one_letter prefix name)
+one_letter (b ∷ prefix) (c ∷ name) = with_test (b == c) (begins_with (prefix ++ 97 ∷ []) name) (begins_with (prefix ++ 98 ∷ []) name) (begins_with prefix name) (one_letter prefix name)
 
 both_letters : (prefix : List ℕ) (names : List (List ℕ)) → count_with (prefix ++ 97 ∷ []) names + count_with (prefix ++ 98 ∷ []) names ≤ count_with prefix names
 both_letters prefix [] = omega arith
 both_letters prefix (name ∷ names) =
     let first = one_letter prefix name in
     let later = both_letters prefix names in
-    let a = sum_by-cons (λ x. bit (begins (prefix ++ 97 ∷ []) x)) name names in
-    let b = sum_by-cons (λ x. bit (begins (prefix ++ 98 ∷ []) x)) name names in
-    let all = sum_by-cons (λ x. bit (begins prefix x)) name names in
+    let a = sum_by-cons (λ x. bit (begins_with (prefix ++ 97 ∷ []) x)) name names in
+    let b = sum_by-cons (λ x. bit (begins_with (prefix ++ 98 ∷ []) x)) name names in
+    let all = sum_by-cons (λ x. bit (begins_with prefix x)) name names in
     omega arith
 
 two_letters : (prefix a b : List ℕ) (names : List (List ℕ)) → a ≡ prefix ++ 97 ∷ [] → b ≡ prefix ++ 98 ∷ [] → count_with a names + count_with b names ≤ count_with prefix names
@@ -77,11 +77,11 @@ fewer_b prefix a b names is_a is_b fewer = record {
 pub free_so : (prefix : List ℕ) (names : List (List ℕ)) → count_with prefix names ≡ 0 → IsFree prefix names
 free_so prefix [] none name rest among is = absurd among
 free_so prefix (x ∷ xs) none name rest (inl same) is =
-    let all = sum_by-cons (λ x. bit (begins prefix x)) x xs in
-    let here : bit (begins prefix x) ≡ 1 = ap (λ (n : List ℕ). bit (begins prefix n)) (sym same ∙ is) ∙ ap bit (begins_so prefix rest) in
+    let all = sum_by-cons (λ x. bit (begins_with prefix x)) x xs in
+    let here : bit (begins_with prefix x) ≡ 1 = ap (λ (n : List ℕ). bit (begins_with prefix n)) (sym same ∙ is) ∙ ap bit (begins_so prefix rest) in
     absurd (omega arith)
 free_so prefix (x ∷ xs) none name rest (inr later) is =
-    let all = sum_by-cons (λ x. bit (begins prefix x)) x xs in
+    let all = sum_by-cons (λ x. bit (begins_with prefix x)) x xs in
     let none' : count_with prefix xs ≡ 0 = omega arith in
     free_so prefix xs none' name rest later is
 
@@ -111,5 +111,5 @@ pub room_first : (names : List (List ℕ)) → length names < 32768 → HasRoom 
 room_first names few = record {
   letters = tt;
   long = refl;
-  few = omega (arith, count_by-le-length (begins []) names);
+  few = omega (arith, count_by-le-length (begins_with []) names);
 }

@@ -9,14 +9,14 @@ pub record IsShortPrefix (prefix : List ℕ) : Type 0 where
   pub few : length prefix ≤ 15
 
 -- serves the body: whether a name begins with a prefix
-abbrev pub begins : List ℕ → List ℕ → Bool
-begins [] name = true
-begins (b ∷ prefix) [] = false
-begins (b ∷ prefix) (c ∷ name) = (b == c) && begins prefix name
+abbrev pub begins_with : List ℕ → List ℕ → Bool
+begins_with [] name = true
+begins_with (b ∷ prefix) [] = false
+begins_with (b ∷ prefix) (c ∷ name) = (b == c) && begins_with prefix name
 
 -- serves the body: how many names begin with a prefix
 abbrev pub count_with : List ℕ → List (List ℕ) → ℕ
-count_with prefix names = count_by (begins prefix) names
+count_with prefix names = count_by (begins_with prefix) names
 
 -- serves the body: a prefix with a letter more, which at most half of the names keep
 pub record IsLonger (prefix longer : List ℕ) (names : List (List ℕ)) : Type 0 where

@@ -2,7 +2,7 @@
 
 ghost use Rattle.std.specs.Prelude.{◌≡◌, IfOk, length, [], ◌∷◌, ◌++◌, ◌+◌, ◌<◌};
 ghost use Rattle.lid_emit_names.specs.Spelling.{IsFree};
-ghost use Rattle.lid_emit.specs.Prefixes.{IsShortPrefix, IsLonger, begins, count_with};
+ghost use Rattle.lid_emit.specs.Prefixes.{IsShortPrefix, IsLonger, begins_with, count_with};
 
 use lid_base::Name;
 use std::alloc::{AllocError, Global};
@@ -78,7 +78,7 @@ fn count_in(prefix: &[u8], names: &[Name]) -> usize
 
 /// Whether a name begins with a prefix.
 fn begins(prefix: &[u8], name: &[u8]) -> bool
-    ensures { result ≡ begins prefix.now name.now }
+    ensures { result ≡ begins_with prefix.now name.now }
 {
     name.starts_with(prefix)
 }

@@ -11,7 +11,7 @@ use Rattle.lid_graph.proofs.Counting.{least_into_most}
 use Rattle.lid_emit_circuit.specs.Wires.{ActorEnd, drains, fills}
 use Rattle.lid_emit_circuit.specs.Plans.{CircuitPlan, ends}
 use Rattle.lid_emit_circuit.specs.Network.{sink}
-use Rattle.lid_emit_circuit.specs.Runs.{graph, held_by, fired, put_count, taken_count, rises}
+use Rattle.lid_emit_circuit.specs.Runs.{graph, held_by, fired, put_count, taken_count, counts_up}
 use Rattle.lid_emit_circuit.specs.Carried.{IsPlan, holds}
 use Rattle.lid_emit_circuit.proofs.Counts.{least_among, least_above, allows, never_falls, stays, comes}
 use Rattle.lid_emit_circuit.proofs.Edges.{forth, back, forth_there, back_there, each_edge}
@@ -153,7 +153,7 @@ module _ (q : CircuitPlan) (plan : IsPlan q) where
           by false true is all = fires_once is all
           by false false is all = rests is all
 
-      pub rises_is : rises (fired q rows) v k ≡ firing
+      pub rises_is : counts_up (fired q rows) v k ≡ firing
       rises_is = by (held k v) (all_let q counts v) refl refl
         where
           by : (h a : Bool) → held k v ≡ h → all_let q counts v ≡ a → nat_lt (counts v) (fired q rows (suc k) v) ≡ not h && a

@@ -11,7 +11,7 @@ use Rattle.lid_emit_circuit.specs.Wires.{Wire, offer, block, may, fire, level, g
 use Rattle.lid_emit_circuit.specs.Gates.{constant, buffer, both, without, count, count_value}
 use Rattle.lid_emit_circuit.specs.Plans.{CircuitPlan, ends}
 use Rattle.lid_emit_circuit.specs.Network.{sink, last_link, link, gate, flop, emitted}
-use Rattle.lid_emit_circuit.specs.Runs.{graph, held_by, fired, put_count, taken_count, rises, row_bit}
+use Rattle.lid_emit_circuit.specs.Runs.{graph, held_by, fired, put_count, taken_count, counts_up, row_bit}
 use Rattle.lid_emit_circuit.specs.Carried.{IsPlan, holds, ShowsLevels}
 use Rattle.lid_emit_circuit.proofs.Values.{constant_is, buffer_is, both_is, without_is, count_is}
 use Rattle.lid_emit_circuit.proofs.Counts.{begins_at}
@@ -92,7 +92,7 @@ module _ (q : CircuitPlan) (plan : IsPlan q) (rows : List (List Bool)) (b : Tabl
             alone false false = refl
         by_role true false false is apart given = given.0 ∙ buffer_is (b k (last_link q v)) ∙ last_is
 
-        pub fire_is : b k (fire v) ≡ rises (fired q rows) v k
+        pub fire_is : b k (fire v) ≡ counts_up (fired q rows) v k
         unfolding emitted
         fire_is =
             by_role (nat_lt v q.actors) (v == 0) (v == sink q) (lt-ltb v q.actors actor) apart (strict k (fire v) below)
@@ -198,5 +198,5 @@ module _ (q : CircuitPlan) (plan : IsPlan q) (rows : List (List Bool)) (b : Tabl
       along : (j : ℕ) → suc j ≡ suc k → ShowsLevels q rows b k → ShowsLevels q rows b j
       along j e shows = let same : k ≡ j = omega arith in subst (ShowsLevels q rows b) same shows
 
-  pub wires_show : (k v : ℕ) → k < length rows → v < q.actors → b k (fire v) ≡ rises (fired q rows) v k
+  pub wires_show : (k v : ℕ) → k < length rows → v < q.actors → b k (fire v) ≡ counts_up (fired q rows) v k
   wires_show k v below actor = fire_is k below (levels_show k below) v actor

@@ -11,7 +11,7 @@ use Rattle.lid_emit_circuit.specs.Wires.{Wire, shown, valid, stop, ActorEnd, dra
 use Rattle.lid_emit_circuit.specs.Gates.{both}
 use Rattle.lid_emit_circuit.specs.Plans.{CircuitPlan, ends}
 use Rattle.lid_emit_circuit.specs.Network.{sink, last_link, gate, emitted}
-use Rattle.lid_emit_circuit.specs.Runs.{held_by, fired, put_count, taken_count, rises}
+use Rattle.lid_emit_circuit.specs.Runs.{held_by, fired, put_count, taken_count, counts_up}
 use Rattle.lid_emit_circuit.specs.Carried.{IsPlan, Original, IsTaken, IsCarried, holds}
 use Rattle.lid_emit_circuit.specs.Laws.{SourceIsStopped, SinkIsServed}
 use Rattle.lid_emit_circuit.proofs.Values.{buffer_is, negation_is, both_is}
@@ -128,7 +128,7 @@ module _ (q : CircuitPlan) (plan : IsPlan q) (rows : List (List Bool)) (b : Tabl
   is_quiet j wire here void = shown_is j wire here ∙ ap (λ (x : Bool). x && b k wire) void
 
   -- a sink that fires is served
-  fires_served : rises (fired q rows) (sink q) k ≡ true → b k valid ≡ true
+  fires_served : counts_up (fired q rows) (sink q) k ≡ true → b k valid ≡ true
   fires_served rising = valid_is ∙ and_right (not (held_by q.inputs (sink q) rows k (sink q))) (lets_all (sink q)) (sym (rises_is q plan rows k (sink q) plan.last) ∙ rising)
     where
       and_right : (x y : Bool) → x && y ≡ true → y ≡ true
@@ -136,7 +136,7 @@ module _ (q : CircuitPlan) (plan : IsPlan q) (rows : List (List Bool)) (b : Tabl
       and_right false y h = cc
 
   pub gives_row : (o : Original) (j : ℕ) (wire : Wire) (bits : ℕ → Bool) → IsCarried q rows o → slice_get q.shows j ≡ Some wire → IsTaken q o (sink q) wire bits
-      → rises (fired q rows) (sink q) k ≡ true → fired q rows k (sink q) < o.rows → b k (shown j) ≡ bits (fired q rows k (sink q))
+      → counts_up (fired q rows) (sink q) k ≡ true → fired q rows k (sink q) < o.rows → b k (shown j) ≡ bits (fired q rows k (sink q))
   gives_row o j wire bits carried here takes rising within =
       let both_hold = both_show q plan rows b strict o carried k below in
       shown_is j wire here

@@ -16,7 +16,7 @@ use Rattle.lid_emit_circuit.specs.Wires.{Wire, entry, given, steady, fire, level
 use Rattle.lid_emit_circuit.specs.Gates.{constant, buffer, move, move_value}
 use Rattle.lid_emit_circuit.specs.Plans.{CircuitPlan, ends}
 use Rattle.lid_emit_circuit.specs.Network.{sink, gate, flop, emitted}
-use Rattle.lid_emit_circuit.specs.Runs.{graph, held_by, fired, put_count, taken_count, rises, row_bit}
+use Rattle.lid_emit_circuit.specs.Runs.{graph, held_by, fired, put_count, taken_count, counts_up, row_bit}
 use Rattle.lid_emit_circuit.specs.Carried.{IsPlan, Original, FromEntry, FromNet, FromStation, IsPut, IsTaken, AreWired, IsCarriedShell, IsCarried, ShowsLevels, ShowsTokens, ShowsStates}
 use Rattle.lid_emit_circuit.proofs.Values.{constant_is, buffer_is, move_is}
 use Rattle.lid_emit_circuit.proofs.Counts.{begins_at}
@@ -54,7 +54,7 @@ module _ (q : CircuitPlan) (plan : IsPlan q) (rows : List (List Bool)) (b : Tabl
   token_at s j m n same = ap (λ (x : ℕ). o.token s x j) same
 
   -- an actor that fires finds a token in each station that it drains
-  finds : (k s : ℕ) → s < q.stations → rises (fired q rows) (q.drainer s) k ≡ true → taken k s < put k s
+  finds : (k s : ℕ) → s < q.stations → counts_up (fired q rows) (q.drainer s) k ≡ true → taken k s < put k s
   finds k s there rising =
       let v = q.drainer s in
       let all : all_let q (fired q rows k) v ≡ true = (and_parts (not (held_by q.inputs (sink q) rows k v)) (all_let q (fired q rows k) v) (sym (rises_is q plan rows k v (plan.drained s there)) ∙ rising)).1 in
@@ -63,10 +63,10 @@ module _ (q : CircuitPlan) (plan : IsPlan q) (rows : List (List Bool)) (b : Tabl
       let lets_it : lets q (fired q rows k) (drains s) ≡ true = each_lets q (fired q rows k) v (length (ends q v)) all at.0 (drains s) (slice_get_within (ends q v) at.0 (drains s) at.1) at.1 in
       omega (arith, is_held (put k s) (taken k s) 1 lets_it)
 
-  risen_by : (k v : ℕ) → v < q.actors → rises (fired q rows) v k ≡ true → fired q rows (suc k) v ≡ fired q rows k v + 1
+  risen_by : (k v : ℕ) → v < q.actors → counts_up (fired q rows) v k ≡ true → fired q rows (suc k) v ≡ fired q rows k v + 1
   risen_by k v actor rising = goes q plan rows k v actor ∙ ap (λ (x : Bool). risen x (fired q rows k v)) (sym (rises_is q plan rows k v actor) ∙ rising)
 
-  rests_by : (k v : ℕ) → v < q.actors → rises (fired q rows) v k ≡ false → fired q rows (suc k) v ≡ fired q rows k v
+  rests_by : (k v : ℕ) → v < q.actors → counts_up (fired q rows) v k ≡ false → fired q rows (suc k) v ≡ fired q rows k v
   rests_by k v actor resting = goes q plan rows k v actor ∙ ap (λ (x : Bool). risen x (fired q rows k v)) (sym (rises_is q plan rows k v actor) ∙ resting)
 
   module _ (k : ℕ) (below : k < length rows) (tokens : ShowsTokens q rows o b k) (states : ShowsStates q rows o b k) where
@@ -81,12 +81,12 @@ module _ (q : CircuitPlan) (plan : IsPlan q) (rows : List (List Bool)) (b : Tabl
     steady_is bit = (strict k (steady bit) below).0 ∙ constant_is bit
 
     -- what an actor takes that fires
-    pub taken_is : (v : ℕ) (wire : Wire) (bits : ℕ → Bool) → IsTaken q o v wire bits → rises (fired q rows) v k ≡ true → fired q rows k v < o.rows → b k wire ≡ bits (fired q rows k v)
+    pub taken_is : (v : ℕ) (wire : Wire) (bits : ℕ → Bool) → IsTaken q o v wire bits → counts_up (fired q rows) v k ≡ true → fired q rows k v < o.rows → b k wire ≡ bits (fired q rows k v)
     taken_is v wire bits (inl has) rising within = ap (b k) has.is ∙ steady_is has.bit ∙ sym (has.same (fired q rows k v) within)
     taken_is v wire bits (inr takes) rising within =
         let s = takes.station in
         let same : taken k s ≡ fired q rows k v = ap (fired q rows k) takes.drained in
-        let found = finds k s takes.there (ap (λ (u : ℕ). rises (fired q rows) u k) takes.drained ∙ rising) in
+        let found = finds k s takes.there (ap (λ (u : ℕ). counts_up (fired q rows) u k) takes.drained ∙ rising) in
         ap (b k) takes.is
         ∙ head_is s takes.bit takes.there takes.within found (omega arith)
         ∙ token_at s takes.bit (taken k s) (fired q rows k v) same
@@ -110,13 +110,13 @@ module _ (q : CircuitPlan) (plan : IsPlan q) (rows : List (List Bool)) (b : Tabl
           all_among (λ s. o.net v n l.out ≡ bit_of shell.inputs (o.net v) n s) (flat_drivers f l.out) (from_latch l.init l.input) (shell.table n l.out (subst (λ (m : ℕ). n < m) (sym shell.long) within)) (latch_drives f l i)
 
       -- the nets of a shell that fires have the bits of its row
-      pub here_is : rises (fired q rows) v k ≡ true → fired q rows k v < o.rows → (n : ℕ) → n < f.nets → b k (q.here v n) ≡ o.net v (fired q rows k v) n
+      pub here_is : counts_up (fired q rows) v k ≡ true → fired q rows k v < o.rows → (n : ℕ) → n < f.nets → b k (q.here v n) ≡ o.net v (fired q rows k v) n
       here_is rising within =
           rows_agree f shell.rules (λ n. b k (q.here v n)) (o.net v (fired q rows k v)) (here_row q rows b strict v shell.wired k below) (original_row (fired q rows k v) within)
           (λ l i. ap (b k) (shell.wired.latches l i).0 ∙ states v l after_source before_sink i within)
           (λ n i. taken_is v (q.here v n) (λ m. o.net v m n) (shell.given n i) rising within)
 
-      latch_read : rises (fired q rows) v k ≡ true → fired q rows k v + 1 < o.rows → (l : FlatLatch) → Among l f.latches → b k (q.here v l.input) ≡ o.net v (fired q rows k v + 1) l.out
+      latch_read : counts_up (fired q rows) v k ≡ true → fired q rows k v + 1 < o.rows → (l : FlatLatch) → Among l f.latches → b k (q.here v l.input) ≡ o.net v (fired q rows k v + 1) l.out
       latch_read rising within l i =
           let next : suc (fired q rows k v) ≡ fired q rows k v + 1 = omega arith in
           here_is rising (omega arith) l.input (all_among (λ (l : FlatLatch). (l.input < f.nets) × (l.out < f.nets)) f.latches l shell.rules.below.latches i).0
@@ -124,7 +124,7 @@ module _ (q : CircuitPlan) (plan : IsPlan q) (rows : List (List Bool)) (b : Tabl
           ∙ ap (λ (m : ℕ). o.net v m l.out) next
 
       -- after the firing its outputs have those of the next row
-      pub after_is : rises (fired q rows) v k ≡ true → fired q rows k v + 1 < o.rows → (n : ℕ) → Among n f.outs → b k (q.after v n) ≡ o.net v (fired q rows k v + 1) n
+      pub after_is : counts_up (fired q rows) v k ≡ true → fired q rows k v + 1 < o.rows → (n : ℕ) → Among n f.outs → b k (q.after v n) ≡ o.net v (fired q rows k v + 1) n
       after_is rising within =
           outputs_agree f shell.rules (λ n. b k (q.after v n)) (o.net v (fired q rows k v + 1)) (after_row q rows b strict v shell.wired k below) (original_row (fired q rows k v + 1) within)
           (λ l i. ap (b k) (shell.wired.latches l i).1 ∙ latch_read rising within l i)
@@ -146,7 +146,7 @@ module _ (q : CircuitPlan) (plan : IsPlan q) (rows : List (List Bool)) (b : Tabl
         by false is gives = cc
 
     -- what is put is the next token
-    pub put_is : (s j : ℕ) → s < q.stations → j < q.width s → rises (fired q rows) (q.filler s) k ≡ true → put k s < o.rows → b k (q.put s j) ≡ o.token s (put k s) j
+    pub put_is : (s j : ℕ) → s < q.stations → j < q.width s → counts_up (fired q rows) (q.filler s) k ≡ true → put k s < o.rows → b k (q.put s j) ≡ o.token s (put k s) j
     put_is s j there bit rising within = by (carried.put s j there bit)
       where
         v : ℕ
@@ -166,7 +166,7 @@ module _ (q : CircuitPlan) (plan : IsPlan q) (rows : List (List Bool)) (b : Tabl
         by_station e =
             let taken_there : taken k e.station ≡ fired q rows k (q.filler s) = ap (fired q rows k) e.drained in
             let same : taken k e.station ≡ put k s = omega (arith, e.none) in
-            let found = finds k e.station e.there (ap (λ (u : ℕ). rises (fired q rows) u k) e.drained ∙ rising) in
+            let found = finds k e.station e.there (ap (λ (u : ℕ). counts_up (fired q rows) u k) e.drained ∙ rising) in
             ap (b k) e.wire ∙ head_is e.station e.bit e.there e.within found (omega arith) ∙ sym (e.same (taken k e.station) (omega arith)) ∙ token_at s j (taken k e.station) (put k s) same
 
         by : IsPut q rows o s j → b k (q.put s j) ≡ o.token s (put k s) j
@@ -209,7 +209,7 @@ module _ (q : CircuitPlan) (plan : IsPlan q) (rows : List (List Bool)) (b : Tabl
       inside : i < q.capacity s
       inside = omega (arith, held, room q plan rows (suc k) s there)
 
-      drained_is : b k (fire (q.drainer s)) ≡ rises (fired q rows) (q.drainer s) k
+      drained_is : b k (fire (q.drainer s)) ≡ counts_up (fired q rows) (q.drainer s) k
       drained_is = wires_show q plan rows b strict k (q.drainer s) below (plan.drained s there)
 
       shift : b k (fire (q.drainer s)) ≡ true → taken (suc k) s ≡ taken k s + 1
@@ -220,16 +220,16 @@ module _ (q : CircuitPlan) (plan : IsPlan q) (rows : List (List Bool)) (b : Tabl
 
       -- where the place was past what the station holds, a token is put
       is_put : taken (suc k) s + i ≡ put k s → b k (q.put s j) ≡ o.token s (taken (suc k) s + i) j
-      is_put same = by (rises (fired q rows) (q.filler s) k) refl
+      is_put same = by (counts_up (fired q rows) (q.filler s) k) refl
         where
-          by : (x : Bool) → rises (fired q rows) (q.filler s) k ≡ x → b k (q.put s j) ≡ o.token s (taken (suc k) s + i) j
+          by : (x : Bool) → counts_up (fired q rows) (q.filler s) k ≡ x → b k (q.put s j) ≡ o.token s (taken (suc k) s + i) j
           by true is = put_is k below tokens states s j there bit is (omega arith) ∙ token_at s j (put k s) (taken (suc k) s + i) (sym same)
           by false is = let rest : fired q rows (suc k) (q.filler s) ≡ fired q rows k (q.filler s) = rests_by k (q.filler s) (plan.filled s there) is in absurd (omega (arith, held))
 
       most : put (suc k) s ≤ put k s + 1
-      most = by (rises (fired q rows) (q.filler s) k) refl
+      most = by (counts_up (fired q rows) (q.filler s) k) refl
         where
-          by : (x : Bool) → rises (fired q rows) (q.filler s) k ≡ x → put (suc k) s ≤ put k s + 1
+          by : (x : Bool) → counts_up (fired q rows) (q.filler s) k ≡ x → put (suc k) s ≤ put k s + 1
           by true is = let on : fired q rows (suc k) (q.filler s) ≡ fired q rows k (q.filler s) + 1 = risen_by k (q.filler s) (plan.filled s there) is in omega arith
           by false is = let rest : fired q rows (suc k) (q.filler s) ≡ fired q rows k (q.filler s) = rests_by k (q.filler s) (plan.filled s there) is in omega arith
 
@@ -294,7 +294,7 @@ module _ (q : CircuitPlan) (plan : IsPlan q) (rows : List (List Bool)) (b : Tabl
       wired : AreWired v (q.flat v) (q.here v) (q.after v) (q.skips v)
       wired = (carried.shells v after_source before_sink).wired
 
-      fires : b k (fire v) ≡ rises (fired q rows) v k
+      fires : b k (fire v) ≡ counts_up (fired q rows) v k
       fires = wires_show q plan rows b strict k v (omega arith) actor
 
       by : (x : Bool) → b k (fire v) ≡ x → (if x then b k (q.here v l.input) else b k (now v l.out)) ≡ o.net v (fired q rows (suc k) v) l.out

@@ -10,7 +10,7 @@ use Rattle.lid_emit_circuit.specs.Wires.{Wire, given, steady, level, place, now,
 use Rattle.lid_emit_circuit.specs.Gates.{PassesOn}
 use Rattle.lid_emit_circuit.specs.Plans.{CircuitPlan}
 use Rattle.lid_emit_circuit.specs.Network.{sink}
-use Rattle.lid_emit_circuit.specs.Runs.{fired, put_count, taken_count, rises, row_bit}
+use Rattle.lid_emit_circuit.specs.Runs.{fired, put_count, taken_count, counts_up, row_bit}
 
 -- actors fill and drain the stations, of which they have lists; the source drains none, and the sink fills none
 pub record IsPlan (q : CircuitPlan) : Type 0 where
@@ -40,7 +40,7 @@ pub record FromEntry (q : CircuitPlan) (rows : List (List Bool)) (o : Original) 
   pub wire : q.put s j ≡ given input
   pub none : q.first s ≡ 0
   pub same :
-      (k : ℕ) → k < length rows → rises (fired q rows) (q.filler s) k ≡ true
+      (k : ℕ) → k < length rows → counts_up (fired q rows) (q.filler s) k ≡ true
       → fired q rows k (q.filler s) < o.rows → o.token s (fired q rows k (q.filler s)) j ≡ row_bit rows k input
 
 -- it is put by a shell: an output of its pearl after the firing

@@ -4,7 +4,7 @@ use Rattle.lid_design.specs.Network.{Table, IsStrict}
 use Rattle.lid_emit_circuit.specs.Wires.{Wire, fire, shown, valid, stop}
 use Rattle.lid_emit_circuit.specs.Plans.{CircuitPlan}
 use Rattle.lid_emit_circuit.specs.Network.{sink, emitted}
-use Rattle.lid_emit_circuit.specs.Runs.{fired, put_count, taken_count, rises}
+use Rattle.lid_emit_circuit.specs.Runs.{fired, put_count, taken_count, counts_up}
 use Rattle.lid_emit_circuit.specs.Carried.{IsPlan, Original, IsTaken, IsCarried, ShowsLevels, ShowsTokens, ShowsStates}
 
 -- in each row of each strict table of the network
@@ -17,7 +17,7 @@ LevelsShowCounts = (q : CircuitPlan) → IsPlan q → InEachRow q (ShowsLevels q
 
 -- the wire of an actor shows that it fires
 abbrev pub ActorsFireByTheirWires : Type 0
-ActorsFireByTheirWires = (q : CircuitPlan) → IsPlan q → InEachRow q (λ rows b k. (v : ℕ) → v < q.actors → b k (fire v) ≡ rises (fired q rows) v k)
+ActorsFireByTheirWires = (q : CircuitPlan) → IsPlan q → InEachRow q (λ rows b k. (v : ℕ) → v < q.actors → b k (fire v) ≡ counts_up (fired q rows) v k)
 
 -- some station that the source fills holds its capacity
 pub record SourceIsStopped (q : CircuitPlan) (rows : List (List Bool)) (k : ℕ) : Type 0 where
@@ -56,5 +56,5 @@ CircuitsGiveRows =
     → InEachRow q (λ rows b k.
     (o : Original) (j : ℕ) (wire : Wire) (bits : ℕ → Bool)
     → IsCarried q rows o → slice_get q.shows j ≡ Some wire → IsTaken q o (sink q) wire bits
-    → rises (fired q rows) (sink q) k ≡ true → fired q rows k (sink q) < o.rows
+    → counts_up (fired q rows) (sink q) k ≡ true → fired q rows k (sink q) < o.rows
     → b k (shown j) ≡ bits (fired q rows k (sink q)))

@@ -45,8 +45,8 @@ abbrev pub taken_count : CircuitPlan → Counts → ℕ → ℕ
 taken_count q counts s = counts (q.drainer s)
 
 -- whether a count rises in cycle k
-abbrev pub rises : (ℕ → Counts) → ℕ → ℕ → Bool
-rises counts v k = nat_lt (counts k v) (counts (suc k) v)
+abbrev pub counts_up : (ℕ → Counts) → ℕ → ℕ → Bool
+counts_up counts v k = nat_lt (counts k v) (counts (suc k) v)
 
 -- the rows of those of the first cycles that are picked
 abbrev pub rows_where : (ℕ → Bool) → (ℕ → List Bool) → ℕ → List (List Bool)

@@ -23,7 +23,7 @@ use Rattle.lid_stations.specs.Placements.{links_of, Fits}
 use Rattle.lid_shell_laws.specs.Runs.{sink_of}
 use Rattle.lid_emit_circuit.specs.Wires.{Wire, shown}
 use Rattle.lid_emit_circuit.specs.Plans.{CircuitPlan}
-use Rattle.lid_emit_circuit.specs.Runs.{rises, rows_where}
+use Rattle.lid_emit_circuit.specs.Runs.{counts_up, rows_where}
 use Rattle.lid_emit_system.specs.Nets.{NetWires, AreNetWires}
 use Rattle.lid_emit_system.specs.Wrapping.{sink_reads, input_count, circuit_plan, wrapped, face_of}
 use Rattle.lid_emit_system.specs.Faces.{fired_by, Face, IsStopped, IsSinkServed, TellsItsState, accepted_rows, delivered_rows, AreInStep, Delivers}
@@ -95,7 +95,7 @@ module _ (d : Design) (s : System) (p : Placement) (n : NetWires) (name : Wire â
   }
 
   delivered_same : delivered_rows (links_of s) p (length (root_inputs d)) rows inner â‰¡ delivered_rows (links_of s) p (length (root_inputs d)) rows face
-  delivered_same = same_rows (rises (fired_by (links_of s) p (length (root_inputs d)) rows) (sink_of (links_of s))) inner.row face.row (length rows) row_same
+  delivered_same = same_rows (counts_up (fired_by (links_of s) p (length (root_inputs d)) rows) (sink_of (links_of s))) inner.row face.row (length rows) row_same
 
   pub delivers_outputs : Delivers (links_of s) p (length (root_inputs d)) rows face (IsStrictOutput d)
   delivers_outputs given outs begins output =

@@ -10,28 +10,28 @@ use Rattle.lid_design.specs.Flat.{ReadEarlier}
 use Rattle.lid_check_rules.specs.Buffers.{passes_on}
 use Rattle.lid_emit_cells.specs.declared.wire.Wire.{Wire}
 use Rattle.lid_emit_cells.specs.declared.wire.Wire.TheVariants.{Offer}
-use Rattle.lid_emit_shells.specs.Filling.{AreNetsWithin, IsCoverWithin, written, passed_by, passed, cover_out}
+use Rattle.lid_emit_shells.specs.Filling.{AreNetsWithin, IsCoverWithin, overwritten, passed_by, passed, cover_out}
 
-pub length_written : {A : Type 0} (ks : List ℕ) (xs list : List A) → length (written ks xs list) ≡ length list
+pub length_written : {A : Type 0} (ks : List ℕ) (xs list : List A) → length (overwritten ks xs list) ≡ length list
 length_written [] xs list = refl
 length_written (k ∷ ks) [] list = refl
 length_written (k ∷ ks) (x ∷ xs) list = length_written ks xs (slice_set list k x) ∙ length-set list k x
 
 -- nothing else is written
-pub written_other : {A : Type 0} (ks : List ℕ) (xs list : List A) (k : ℕ) (d : A) → (Among k ks → ⊥) → get_or (written ks xs list) k d ≡ get_or list k d
+pub written_other : {A : Type 0} (ks : List ℕ) (xs list : List A) (k : ℕ) (d : A) → (Among k ks → ⊥) → get_or (overwritten ks xs list) k d ≡ get_or list k d
 written_other [] xs list k d apart = refl
 written_other (j ∷ ks) [] list k d apart = refl
 written_other (j ∷ ks) (x ∷ xs) list k d apart =
     written_other ks xs (slice_set list j x) k d (λ i. apart (inr i)) ∙ get_or-set_other list j k x d (λ same. apart (inl same))
 
 -- each value stands at its place
-pub written_at : {A : Type 0} (ks : List ℕ) (xs list : List A) (j k : ℕ) (x d : A) → AreOnce ks → AreNetsWithin (length list) ks → slice_get ks j ≡ Some k → slice_get xs j ≡ Some x → get_or (written ks xs list) k d ≡ x
+pub written_at : {A : Type 0} (ks : List ℕ) (xs list : List A) (j k : ℕ) (x d : A) → AreOnce ks → AreNetsWithin (length list) ks → slice_get ks j ≡ Some k → slice_get xs j ≡ Some x → get_or (overwritten ks xs list) k d ≡ x
 written_at [] xs list j k x d once within here there = absurd (let e : None ≡ Some k = here in cc)
 written_at (i ∷ ks) [] list j k x d once within here there = absurd (let e : None ≡ Some x = there in cc)
 written_at (i ∷ ks) (y ∷ xs) list zero k x d once within here there =
     let same : i ≡ k = (let e : Some i ≡ Some k = here in cc) in
     let is : y ≡ x = (let e : Some y ≡ Some x = there in cc) in
-    subst (λ (n : ℕ). get_or (written ks xs (slice_set list i y)) n d ≡ x) same (written_other ks xs (slice_set list i y) i d once.0 ∙ get_or-set_same list i y d within.0 ∙ is)
+    subst (λ (n : ℕ). get_or (overwritten ks xs (slice_set list i y)) n d ≡ x) same (written_other ks xs (slice_set list i y) i d once.0 ∙ get_or-set_same list i y d within.0 ∙ is)
 written_at (i ∷ ks) (y ∷ xs) list (suc j) k x d once within here there =
     written_at ks xs (slice_set list i y) j k x d once.1 (subst (λ (n : ℕ). AreNetsWithin n ks) (sym (length-set list i y)) within.1) here there
 

@@ -14,7 +14,7 @@ use Rattle.lid_check_rules.specs.Buffers.{passes_on}
 use Rattle.lid_check_rules.proofs.Buffers.{passed_on}
 use Rattle.lid_emit_cells.specs.declared.wire.Wire.{Wire}
 use Rattle.lid_emit_cells.specs.declared.wire.Wire.TheVariants.{Offer, Now, Later}
-use Rattle.lid_emit_shells.specs.Filling.{AreNetsWithin, IsCoverWithin, written, cover_out, is_passing, wire_read, here_of, after_of, skips_of}
+use Rattle.lid_emit_shells.specs.Filling.{AreNetsWithin, IsCoverWithin, overwritten, cover_out, is_passing, wire_read, here_of, after_of, skips_of}
 use Rattle.lid_emit_shells.proofs.Apart.{each_input_once, each_latch_once, each_cover_once, no_input_of_latch, no_input_of_cover, no_latch_of_cover, no_known_of_cover}
 use Rattle.lid_emit_shells.proofs.Filled.{length_written, written_other, written_at, length_passed, passed_other, passed_stays, passed_passes}
 use Rattle.lid_emit_shells.proofs.Inside.{inputs_inside, covers_inside}
@@ -55,10 +55,10 @@ module _ (v : ℕ) (f : Flat) (rules : IsFlat f) (reads : List Wire) (long : len
   begun own = from_each (own v) 0 f.nets
 
   abbrev read : (ℕ → ℕ → Wire) → List Wire
-  read own = written f.ins reads (begun own)
+  read own = overwritten f.ins reads (begun own)
 
   abbrev taken : List Wire
-  taken = written outs (map (wire_read here) f.latches) (read Later)
+  taken = overwritten outs (map (wire_read here) f.latches) (read Later)
 
   length_read : (own : ℕ → ℕ → Wire) → length (read own) ≡ f.nets
   length_read own = length_written f.ins reads (begun own) ∙ each_length (own v) 0 f.nets

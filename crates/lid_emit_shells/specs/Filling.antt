@@ -22,10 +22,10 @@ abbrev pub IsCoverWithin : ℕ → FlatCover → Type 0
 IsCoverWithin nets c = AreNetsWithin nets c.ins × (c.out < nets)
 
 -- values are written at places, one after the other
-abbrev pub written : {A : Type 0} → List ℕ → List A → List A → List A
-written [] values list = list
-written (k ∷ ks) [] list = list
-written (k ∷ ks) (x ∷ xs) list = written ks xs (slice_set list k x)
+abbrev pub overwritten : {A : Type 0} → List ℕ → List A → List A → List A
+overwritten [] values list = list
+overwritten (k ∷ ks) [] list = list
+overwritten (k ∷ ks) (x ∷ xs) list = overwritten ks xs (slice_set list k x)
 
 -- the net of a cover that passes its input on has the wire of the net that it reads
 abbrev pub passed_by : FlatCover → List Wire → List Wire
@@ -47,16 +47,16 @@ wire_read wires latch = slice_index_or wires latch.input Offer
 
 -- the wires of the nets of shell v, whose inputs have these
 abbrev pub here_of : ℕ → Flat → List Wire → List Wire
-here_of v f reads = passed f.covers (written f.ins reads (from_each (Now v) 0 f.nets))
+here_of v f reads = passed f.covers (overwritten f.ins reads (from_each (Now v) 0 f.nets))
 
 -- and after a firing
 abbrev pub after_of : ℕ → Flat → List Wire → List Wire → List Wire
 after_of v f reads here =
-    passed f.covers (written (map latch_out f.latches) (map (wire_read here) f.latches) (written f.ins reads (from_each (Later v) 0 f.nets)))
+    passed f.covers (overwritten (map latch_out f.latches) (map (wire_read here) f.latches) (overwritten f.ins reads (from_each (Later v) 0 f.nets)))
 
 -- whether nets have the wires of others
 abbrev pub skips_of : Flat → List Bool
-skips_of f = written (map cover_out f.covers) (map is_passing f.covers) (replicate f.nets false)
+skips_of f = overwritten (map cover_out f.covers) (map is_passing f.covers) (replicate f.nets false)
 
 -- shell v of a flat part, whose inputs read these, by the last stations of channels
 abbrev pub shell_of : ℕ → Flat → List ℕ → List InBit → Shell

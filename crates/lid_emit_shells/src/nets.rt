@@ -5,7 +5,7 @@ ghost use Rattle.std.specs.List.{AllByRecursion};
 ghost use Rattle.lid_base.specs.Each.{from_each};
 ghost use Rattle.lid_design.specs.Flat.{IsFlat, IsFlatCover, latch_out};
 ghost use Rattle.lid_emit_cells.specs.declared.wire.Wire.TheVariants.{Now, Later};
-ghost use Rattle.lid_emit_shells.specs.Filling.{written, passed_by, passed, cover_out, is_passing, wire_read, here_of, after_of, skips_of, AreNetsWithin, IsCoverWithin};
+ghost use Rattle.lid_emit_shells.specs.Filling.{overwritten, passed_by, passed, cover_out, is_passing, wire_read, here_of, after_of, skips_of, AreNetsWithin, IsCoverWithin};
 
 use lid_check_rules::passes_on;
 use lid_design::{Flat, FlatCover, FlatLatch};
@@ -45,7 +45,7 @@ pub(crate) struct Wires {
 fn put_wires(wires: &mut Vec<Wire>, nets: &[u32], values: &[Wire])
     requires within { AreNetsWithin (length wires.old.items) nets.now }
     requires long { length values.now ≡ length nets.now }
-    ensures { wires.new.items ≡ written nets.now values.now wires.old.items }
+    ensures { wires.new.items ≡ overwritten nets.now values.now wires.old.items }
 {
     for j in 0..nets.len() {
         wires[nets[j] as usize] = values[j];
@@ -55,7 +55,7 @@ fn put_wires(wires: &mut Vec<Wire>, nets: &[u32], values: &[Wire])
 /// Gives the net of each latch the wire that the latch reads.
 fn put_latches(wires: &mut Vec<Wire>, latches: &[FlatLatch], here: &[Wire])
     requires within { AllByRecursion (λ latch. (latch.input < length here.now) × (latch.out < length wires.old.items)) latches.now }
-    ensures { wires.new.items ≡ written (map latch_out latches.now) (map (wire_read here.now) latches.now) wires.old.items }
+    ensures { wires.new.items ≡ overwritten (map latch_out latches.now) (map (wire_read here.now) latches.now) wires.old.items }
 {
     for latch in latches {
         wires[latch.out as usize] = here[latch.input as usize];
@@ -88,7 +88,7 @@ fn pass_on(wires: &mut Vec<Wire>, covers: &[FlatCover])
 fn mark(marks: &mut Vec<bool>, covers: &[FlatCover])
     requires rules { AllByRecursion IsFlatCover covers.now }
     requires within { AllByRecursion (IsCoverWithin (length marks.old.items)) covers.now }
-    ensures { marks.new.items ≡ written (map cover_out covers.now) (map is_passing covers.now) marks.old.items }
+    ensures { marks.new.items ≡ overwritten (map cover_out covers.now) (map is_passing covers.now) marks.old.items }
 {
     for c in covers {
         marks[c.out as usize] = passes_on(&c.cover);

@@ -30,7 +30,7 @@ use Rattle.lid_stations.proofs.Spots.{channel_there, spot_of_station, station_at
 use Rattle.lid_stations.proofs.Movers.{carries}
 use Rattle.lid_emit_circuit.specs.Wires.{Wire, given, place}
 use Rattle.lid_emit_circuit.specs.Plans.{CircuitPlan}
-use Rattle.lid_emit_circuit.specs.Runs.{fired, rises, row_bit}
+use Rattle.lid_emit_circuit.specs.Runs.{fired, counts_up, row_bit}
 use Rattle.lid_emit_circuit.specs.Carried as carry
 use Rattle.lid_emit_system.specs.Nets.{NetWires, AreNetWires, AreNetsOf, HasBits, last_station, read_wire}
 use Rattle.lid_emit_system.specs.Faces.{first_count}
@@ -208,7 +208,7 @@ module _ (s : System) (p : Placement) (n : NetWires) (well : IsWellFormed s) (fi
             with_shell filled (inner_node s well (channel_of s p st).from (omega (arith, no_source, filled)) comes)
         by (suc i) is = absurd (omega (arith, later_starts st i is, starts_one))
 
-    module _ (rows : List (List Bool)) (accepts : (k x : ℕ) → k < length rows → x < input_count s → rises (fired q rows) 0 k ≡ true → fired q rows k 0 < length given_rows → row_bit given_rows (fired q rows k 0) x ≡ row_bit rows k x) (nets : AreNetWires s p n) (have : (v : ℕ) (pearl : View) (ins : List InBit) → slice_get s.nodes v ≡ Some (Shell pearl ins) → HasBits s given_rows a v (n.flat v) ins (bits v)) where
+    module _ (rows : List (List Bool)) (accepts : (k x : ℕ) → k < length rows → x < input_count s → counts_up (fired q rows) 0 k ≡ true → fired q rows k 0 < length given_rows → row_bit given_rows (fired q rows k 0) x ≡ row_bit rows k x) (nets : AreNetWires s p n) (have : (v : ℕ) (pearl : View) (ins : List InBit) → slice_get s.nodes v ≡ Some (Shell pearl ins) → HasBits s given_rows a v (n.flat v) ins (bits v)) where
       module _ (st j : ℕ) (there : st < station_count p.relays) (bit : j < length (channel_of s p st).ports) where
         abbrev port_at : ℕ
         port_at = get_or (channel_of s p st).ports j 0
@@ -233,7 +233,7 @@ module _ (s : System) (p : Placement) (n : NetWires) (well : IsWellFormed s) (fi
               same = λ k below rising few.
                   ap (a (fired q rows k (filler (links_of s) p st))) at.0
                   ∙ given_port (fired q rows k (filler (links_of s) p st)) port_at few within
-                  ∙ subst (λ (u : ℕ). rises (fired q rows) u k ≡ true → fired q rows k u < length given_rows → row_bit given_rows (fired q rows k u) port_at ≡ row_bit rows k port_at) (sym filled) (accepts k port_at below within) rising few;
+                  ∙ subst (λ (u : ℕ). counts_up (fired q rows) u k ≡ true → fired q rows k u < length given_rows → row_bit given_rows (fired q rows k u) port_at ≡ row_bit rows k port_at) (sym filled) (accepts k port_at below within) rising few;
             }
 
         put_by_shell : (spot_at p.relays st).place ≡ 0 → 0 < (channel_of s p st).from → carry.FromNet q o st j

@@ -20,7 +20,7 @@ use Rattle.lid_stations.specs.Placements.{links_of, Fits}
 use Rattle.lid_emit_circuit.specs.Wires.{Wire, shown}
 use Rattle.lid_emit_circuit.specs.Plans.{CircuitPlan}
 use Rattle.lid_emit_circuit.specs.Network.{sink}
-use Rattle.lid_emit_circuit.specs.Runs.{graph, held_by, fired, rises, row_bit, data_row}
+use Rattle.lid_emit_circuit.specs.Runs.{graph, held_by, fired, counts_up, row_bit, data_row}
 use Rattle.lid_emit_circuit.proofs.Counts.{begins_at}
 use Rattle.lid_emit_circuit.proofs.Holding.{risen}
 use Rattle.lid_emit_circuit.proofs.Firing.{goes, rises_is}
@@ -43,7 +43,7 @@ module _ (s : System) (p : Placement) (n : NetWires) (well : IsWellFormed s) (fi
   first : (v : ℕ) → fired q rows 0 v ≡ 0
   first v = begins_at (graph q) (held_by q.inputs (sink q) rows) v
 
-  step : (v : ℕ) → v < q.actors → (k : ℕ) → fired q rows (suc k) v ≡ risen (rises (fired q rows) v k) (fired q rows k v)
+  step : (v : ℕ) → v < q.actors → (k : ℕ) → fired q rows (suc k) v ≡ risen (counts_up (fired q rows) v k) (fired q rows k v)
   step v actor k = goes q (plan_is s p n well fits) rows k v actor ∙ ap (λ (x : Bool). risen x (fired q rows k v)) (sym (rises_is q (plan_is s p n well fits) rows k v actor))
 
   source_acts : 0 < q.actors
@@ -51,9 +51,9 @@ module _ (s : System) (p : Placement) (n : NetWires) (well : IsWellFormed s) (fi
 
   module _ (given : List (List Bool)) (begins : Extends (accepted_rows (links_of s) p (input_count s) rows) given) where
     -- a row that is accepted stands where the source has fired so often
-    accepts : (k x : ℕ) → k < length rows → x < input_count s → rises (fired q rows) 0 k ≡ true → fired q rows k 0 < length given → row_bit given (fired q rows k 0) x ≡ row_bit rows k x
+    accepts : (k x : ℕ) → k < length rows → x < input_count s → counts_up (fired q rows) 0 k ≡ true → fired q rows k 0 < length given → row_bit given (fired q rows k 0) x ≡ row_bit rows k x
     accepts k x below within rising few =
-        let there : slice_get (accepted_rows (links_of s) p (input_count s) rows) (fired q rows k 0) ≡ Some (data_row (input_count s) rows k) = row_there (rises (fired q rows) 0) (data_row (input_count s) rows) (λ j. fired q rows j 0) (first 0) (step 0 source_acts) (length rows) k below rising in
+        let there : slice_get (accepted_rows (links_of s) p (input_count s) rows) (fired q rows k 0) ≡ Some (data_row (input_count s) rows k) = row_there (counts_up (fired q rows) 0) (data_row (input_count s) rows) (λ j. fired q rows j 0) (first 0) (step 0 source_acts) (length rows) k below rising in
         let longer : slice_get given (fired q rows k 0) ≡ Some (data_row (input_count s) rows k) = ap (λ (xs : List (List Bool)). slice_get xs (fired q rows k 0)) begins.1 ∙ get_left (accepted_rows (links_of s) p (input_count s) rows) begins.0 (fired q rows k 0) (data_row (input_count s) rows k) there in
         let row : get_or given (fired q rows k 0) [] ≡ data_row (input_count s) rows k = get_or_from_slice_get given (fired q rows k 0) (data_row (input_count s) rows k) [] longer in
         let place : 0 + x ≡ x = omega arith in
@@ -71,7 +71,7 @@ module _ (s : System) (p : Placement) (n : NetWires) (well : IsWellFormed s) (fi
           let ins : sink_reads s ≡ node.1 = ap (λ (n : Option Node). option_map_or input_reads n []) node.2 in
           all_at (IsRead s (length s.nodes - 1)) node.1 j x is_sink.reads (ap (λ (xs : List InBit). slice_get xs j) (sym ins) ∙ here)
 
-      row_is : (k : ℕ) → k < length rows → rises (fired q rows) (sink q) k ≡ true → fired q rows k (sink q) < length given → from_each (λ j. b k (shown j)) 0 (length (sink_reads s)) ≡ output_row s a (fired q rows k (sink q))
+      row_is : (k : ℕ) → k < length rows → counts_up (fired q rows) (sink q) k ≡ true → fired q rows k (sink q) < length given → from_each (λ j. b k (shown j)) 0 (length (sink_reads s)) ≡ output_row s a (fired q rows k (sink q))
       row_is k below rising few = each_is_map (λ j. b k (shown j)) (in_bit s a (fired q rows k (sink q))) (sink_reads s) 0 bit
         where
           bit : (j : ℕ) (x : InBit) → slice_get (sink_reads s) j ≡ Some x → b k (shown (0 + j)) ≡ in_bit s a (fired q rows k (sink q)) x
@@ -86,7 +86,7 @@ module _ (s : System) (p : Placement) (n : NetWires) (well : IsWellFormed s) (fi
 
       pub are_in_step : AreInStep (delivered_rows (links_of s) p (input_count s) rows (face_of s b)) (from_each (output_row s a) 0 (length given))
       are_in_step =
-          in_step (rises (fired q rows) (sink q)) (λ k. from_each (λ j. b k (shown j)) 0 (length (sink_reads s))) (λ k. fired q rows k (sink q)) (first (sink q)) (step (sink q) (plan_is s p n well fits).last)
+          in_step (counts_up (fired q rows) (sink q)) (λ k. from_each (λ j. b k (shown j)) 0 (length (sink_reads s))) (λ k. fired q rows k (sink q)) (first (sink q)) (step (sink q) (plan_is s p n well fits).last)
           (output_row s a) (length given) (length rows) row_is
 
   pub delivers : Delivers (links_of s) p (input_count s) rows (face_of s b) (IsOutput s)

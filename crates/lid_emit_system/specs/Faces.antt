@@ -12,7 +12,7 @@ use Rattle.lid_stations.specs.Placements.{Links, station_count}
 use Rattle.lid_stations.specs.Stations.{actor_count, filler, drainer, start_count, capacity}
 use Rattle.lid_stations.specs.Markings.{self_edge}
 use Rattle.lid_shell_laws.specs.Runs.{sink_of}
-use Rattle.lid_emit_circuit.specs.Runs.{held_by, rises, rows_where, data_row}
+use Rattle.lid_emit_circuit.specs.Runs.{held_by, counts_up, rows_where, data_row}
 
 -- the tokens that a station starts with: those that the source fills start empty
 abbrev pub first_count : Links → Placement → ℕ → ℕ
@@ -72,10 +72,10 @@ pub record TellsItsState (l : Links) (p : Placement) (inputs : ℕ) (rows : List
 
 -- the rows that the source takes, and those that the sink gives
 abbrev pub accepted_rows : Links → Placement → ℕ → List (List Bool) → List (List Bool)
-accepted_rows l p inputs rows = rows_where (rises (fired_by l p inputs rows) 0) (data_row inputs rows) (length rows)
+accepted_rows l p inputs rows = rows_where (counts_up (fired_by l p inputs rows) 0) (data_row inputs rows) (length rows)
 
 abbrev pub delivered_rows : Links → Placement → ℕ → List (List Bool) → Face → List (List Bool)
-delivered_rows l p inputs rows face = rows_where (rises (fired_by l p inputs rows) (sink_of l)) face.row (length rows)
+delivered_rows l p inputs rows face = rows_where (counts_up (fired_by l p inputs rows) (sink_of l)) face.row (length rows)
 
 -- one list begins with the other
 abbrev pub AreInStep : List (List Bool) → List (List Bool) → Type 0

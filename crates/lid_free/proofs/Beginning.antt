@@ -19,7 +19,7 @@ use Rattle.lid_board.specs.Owners.{IsOf, ends_of, start_ends}
 use Rattle.lid_board.specs.Relation.{stream_of}
 use Rattle.lid_board.specs.Standing.{AreStreamsOf}
 use Rattle.lid_board.specs.Starts.{AreStreamsFor, start_fill, start_drain}
-use Rattle.lid_board.specs.Views.{Ends, at}
+use Rattle.lid_board.specs.Views.{EndTable, at}
 use Rattle.lid_board.specs.declared.board.Board.{Board}
 use Rattle.lid_board.specs.declared.hand.Hand.{Hand}
 use Rattle.lid_walk_machine.specs.Plans.{stations_of, start_of, room_of, stream}
@@ -101,12 +101,12 @@ module _ (m : Setup) (rules : IsSetup m) where
         streams = λ station within. stands station within ∙ ap (λ (l : List (List ℕ)). get_or l station []) is ∙ stream_at station [] (omega (arith, within, many, long));
         fills = λ station there. (
           start_fill firsts caps streams station,
-          ap (λ (e : Ends). at e (fill station)) (sym all) ∙ fills station (omega (arith, there, long)),
+          ap (λ (e : EndTable). at e (fill station)) (sym all) ∙ fills station (omega (arith, there, long)),
           record { cap = rooms m rules caps same station there; start = starts_with firsts are station there; passed_is = starts_with firsts are station there; mark = refl; misses = refl },
         );
         drains = λ station there. (
           start_drain firsts caps streams station,
-          ap (λ (e : Ends). at e (drain station)) (sym all) ∙ drains station (omega (arith, there, long)),
+          ap (λ (e : EndTable). at e (drain station)) (sym all) ∙ drains station (omega (arith, there, long)),
           record { cap = rooms m rules caps same station there; start = starts_with firsts are station there; passed_is = refl; mark = refl; misses = refl },
         );
       }

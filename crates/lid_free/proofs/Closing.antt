@@ -8,7 +8,7 @@ use Rattle.lid_station.specs.declared.pair.Pair.{Pair}
 use Rattle.lid_board.specs.Closing.{closed_facts}
 use Rattle.lid_board.specs.Owners.{IsOwned, ends_of, start_ends}
 use Rattle.lid_board.specs.Parting.{unseen}
-use Rattle.lid_board.specs.Relation.{cap_of}
+use Rattle.lid_board.specs.Relation.{capacity_of}
 use Rattle.lid_board.specs.Views.{at, facts, held, held_of}
 use Rattle.lid_board.specs.declared.board.Board.{Board}
 use Rattle.lid_board.specs.declared.hand.Hand.{Hand}
@@ -26,7 +26,7 @@ use Rattle.lid_free_crew.proofs.Misses.{held_there}
 use Rattle.lid_free_crew.specs.Shares.{share, holder}
 use Rattle.lid_free_crew.specs.Crews.{HaveWorked, HasJoined, AreShared}
 use Rattle.lid_free.specs.Settings.{IsStarted, IsPlain, IsCrew}
-use Rattle.lid_free.specs.FreeRuns.{state_at}
+use Rattle.lid_free.specs.FreeRuns.{state_of_counts}
 use Rattle.lid_free.specs.Gathering.{fired_of}
 use Rattle.lid_free.proofs.Parallel.{HasPair, pair_of, holder_low, mod_low, works_after, kept}
 use Rattle.lid_free.proofs.Ready.{drain_holder, fill_holder}
@@ -89,9 +89,9 @@ module _ (m : Setup) (board : Board) (workers : ℕ) (owners : List ℕ) (before
             unseen_too (facts x) (subst P (sym is_x) is),
           )
 
-      agrees_closed : (v : ℕ) (b : Actor) → slice_get actors v ≡ Some b → Agrees m v (state_at (fired_of actors) v) (plain_ends pairs)
+      agrees_closed : (v : ℕ) (b : Actor) → slice_get actors v ≡ Some b → Agrees m v (state_of_counts (fired_of actors) v) (plain_ends pairs)
       agrees_closed v b at_b =
-          let q = state_at (fired_of actors) v in
+          let q = state_of_counts (fired_of actors) v in
           let p = pair (v % workers) (mod_low m board workers owners before olds news made actors c worked long shares v) in
           let w = works_after m board workers owners before olds news made actors c worked long shares v b at_b p in
           let many = c.started.many in
@@ -108,7 +108,7 @@ module _ (m : Setup) (board : Board) (workers : ℕ) (owners : List ℕ) (before
                 (w.agrees.fills j station h);
           }
 
-      pub board_closed : IsBoard m (state_at (fired_of actors)) pairs
+      pub board_closed : IsBoard m (state_of_counts (fired_of actors)) pairs
       board_closed = record {
         many = plain_many;
         agrees = λ v h. let (b, at_b) = item_at actors v (omega (arith, h, long)) in agrees_closed v b at_b;
@@ -116,7 +116,7 @@ module _ (m : Setup) (board : Board) (workers : ℕ) (owners : List ℕ) (before
       }
 
 -- the capacities of a plain board are those of the board
-pub caps_are : (m : Setup) (board : Board) (pairs : List Pair) → IsStarted m board → IsPlain m pairs → (station : ℕ) (p : Pair) → slice_get pairs station ≡ Some p → length p.places.items ≡ cap_of (start_ends board) station
+pub caps_are : (m : Setup) (board : Board) (pairs : List Pair) → IsStarted m board → IsPlain m pairs → (station : ℕ) (p : Pair) → slice_get pairs station ≡ Some p → length p.places.items ≡ capacity_of (start_ends board) station
 caps_are m board pairs started plain station p at_p =
     let within = slice_get_within pairs station p at_p in
     let many = plain.many in

@@ -25,7 +25,7 @@ use Rattle.lid_walk.proofs.Sweeping.{count, count_more}
 use Rattle.lid_free_crew.specs.Tallies.{AddsUp, sum_below}
 use Rattle.lid_free_crew.specs.Nothing.{no_turns}
 use Rattle.lid_free_crew.specs.Shares.{numbers_of}
-use Rattle.lid_free.specs.FreeRuns.{IsShareTally, FitStations, AreWithinRounds, FirstTurnsFire, AreSweeps, Finishes, IsNothing, IsFreeEnd, rounds_made, state_at}
+use Rattle.lid_free.specs.FreeRuns.{IsShareTally, FitStations, AreWithinRounds, FirstTurnsFire, AreSweeps, Finishes, IsNothing, IsFreeEnd, rounds_made, state_of_counts}
 use Rattle.lid_free.specs.Gathering.{fired_of, AreGathered}
 use Rattle.lid_free.specs.Endings.{IsEnding}
 use Rattle.lid_free.specs.Sweeps.{HasSettled}
@@ -54,7 +54,7 @@ module _ (m : Setup) (workers made : ℕ) (pairs : List Pair) (actors : List Act
   passed = map (λ (p : Pair). p.taken) pairs
 
   abbrev st : State
-  st = state_at fired
+  st = state_of_counts fired
 
   capped : (v : ℕ) → v < actors_of (plan m) → get_or fired v 0 ≤ cap (plan m) v
   capped v h = (g.sound.actors v h).capped

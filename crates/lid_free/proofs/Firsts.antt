@@ -28,7 +28,7 @@ use Rattle.lid_free_crew.proofs.Misses.{held_there}
 use Rattle.lid_free_crew.specs.Shares.{share}
 use Rattle.lid_free_crew.specs.Crews.{HaveWorked}
 use Rattle.lid_free.specs.Settings.{IsCrew}
-use Rattle.lid_free.specs.FreeRuns.{FirstTurnsFire, state_at}
+use Rattle.lid_free.specs.FreeRuns.{FirstTurnsFire, state_of_counts}
 use Rattle.lid_free.specs.Gathering.{fired_of}
 use Rattle.lid_free.proofs.Parallel.{fired_read, HasPair, pair_of, mod_low, run_of, works_after, kept}
 use Rattle.lid_free.proofs.Ready.{drain_holder}
@@ -43,7 +43,7 @@ module _ (m : Setup) (board : Board) (workers : ℕ) (owners : List ℕ) (before
   early_none hand end x at_x low = ap misses_in (ap (option_map facts) at_x) ∙ hand.early end x at_x low
 
   module _ (v : ℕ) (b : Actor) (at_b : slice_get actors v ≡ Some b) (none : b.desk.fired ≡ 0) (p : HasPair m board workers owners before olds news made actors c worked long shares (v % workers)) where
-    w : Works m v (state_at (fired_of actors) v) b (known p.new.hand) (AreStreamsOf (start_ends board))
+    w : Works m v (state_of_counts (fired_of actors) v) b (known p.new.hand) (AreStreamsOf (start_ends board))
     w = works_after m board workers owners before olds news made actors c worked long shares v b at_b p
 
     far : get_or (fired_of actors) v 0 ≡ 0

@@ -23,7 +23,7 @@ use Rattle.lid_free_crew.specs.declared.worker.Worker.{Worker}
 use Rattle.lid_free_crew.specs.Shares.{is_own, share, numbers_of, holder}
 use Rattle.lid_free_crew.specs.Crews.{IsSameBut, AreBack, AreShared, HasJoined, HaveWorked}
 use Rattle.lid_free.specs.Settings.{IsCrew}
-use Rattle.lid_free.specs.FreeRuns.{IsShareTally, state_at}
+use Rattle.lid_free.specs.FreeRuns.{IsShareTally, state_of_counts}
 use Rattle.lid_free.specs.Gathering.{fired_of, HasWorkedOut, AreGathered}
 use Rattle.lid_free.specs.declared.setting.Boards.{Boards}
 use Rattle.lid_free.specs.declared.setting.Crew.{Crew}
@@ -119,12 +119,12 @@ module _ (m : Setup) (workers made : ℕ) (b : Boards) (crew : Crew) (h : HasWor
                 ap (λ (t : Tally). t ∷ map (λ (y : Worker). y.tally) xs) (each 0 x w refl refl)
                 ∙ ap (λ (l : List Tally). w.tally ∷ l) (same_maps xs ws (omega (arith, same)) (λ i y z at_y at_z. each (suc i) y z at_y at_z))
 
-        board_is : IsBoard m (state_at (fired_of actors)) pairs
+        board_is : IsBoard m (state_of_counts (fired_of actors)) pairs
         board_is =
             board_closed m b.board workers h.set.owners h.set.dealt h.old.workers.items news made actors c h.worked long shares_are keeper joined
             pairs (many ∙ h.given.plain.many) closed (stands (stream (plan m)) c.started.streams)
 
-        are : AreActors m (state_at (fired_of actors)) actors
+        are : AreActors m (state_of_counts (fired_of actors)) actors
         are = actors_after m b.board workers h.set.owners h.set.dealt h.old.workers.items news made actors c h.worked long shares_are
 
         capped : (v : ℕ) → v < actors_of (plan m) → get_or (fired_of actors) v 0 ≤ cap (plan m) v
@@ -155,7 +155,7 @@ module _ (m : Setup) (workers made : ℕ) (b : Boards) (crew : Crew) (h : HasWor
           rules = c.rules;
           actors_are = are;
           board = board_is;
-          sound = sound_at_rest m c.rules (state_at (fired_of actors)) pairs board_is (λ v there. refl) capped;
+          sound = sound_at_rest m c.rules (state_of_counts (fired_of actors)) pairs board_is (λ v there. refl) capped;
           tallies_many = ap length noted_news ∙ length_map news ∙ news_many;
           tallies_are = tallies_is;
           few = few_fired m b.board workers h.set.owners h.set.dealt h.old.workers.items c news made actors h.worked long shares_are;

@@ -28,7 +28,7 @@ use Rattle.lid_free_crew.proofs.Sums.{sum_none}
 use Rattle.lid_free_crew.specs.Shares.{is_own, share, numbers_of, holder}
 use Rattle.lid_free_crew.specs.Crews.{HasWorked, HaveWorked}
 use Rattle.lid_free.specs.Settings.{IsCrew}
-use Rattle.lid_free.specs.FreeRuns.{IsShareTally, state_at}
+use Rattle.lid_free.specs.FreeRuns.{IsShareTally, state_of_counts}
 use Rattle.lid_free.specs.Gathering.{fired_of}
 use Rattle.lid_free.proofs.Shares.{rank, picked_at, picked_length, picks_sum}
 use Rattle.lid_free.proofs.Ready.{works_at_start, held_here}
@@ -97,13 +97,13 @@ module _ (m : Setup) (board : Board) (workers : ℕ) (owners : List ℕ) (before
       let none = none_fired v r.was r.at_was in
       r.gone.agrees m v (subst (λ (n : ℕ). Works m v (record { fired = n; position = 0 }) r.was (known p.old.hand) (AreStreamsOf (start_ends board))) (sym none) start)
 
-  state_is : (v : ℕ) (b : Actor) → slice_get actors v ≡ Some b → resting b ≡ state_at (fired_of actors) v
+  state_is : (v : ℕ) (b : Actor) → slice_get actors v ≡ Some b → resting b ≡ state_of_counts (fired_of actors) v
   state_is v b at_b = ap (λ (n : ℕ). let q : Progress = record { fired = n; position = 0 } in q) (sym (fired_read actors v b at_b))
 
-  pub works_after : (v : ℕ) (b : Actor) → slice_get actors v ≡ Some b → (p : HasPair (v % workers)) → Works m v (state_at (fired_of actors) v) b (known p.new.hand) (AreStreamsOf (start_ends board))
+  pub works_after : (v : ℕ) (b : Actor) → slice_get actors v ≡ Some b → (p : HasPair (v % workers)) → Works m v (state_of_counts (fired_of actors) v) b (known p.new.hand) (AreStreamsOf (start_ends board))
   works_after v b at_b p = subst (λ (q : Progress). Works m v q b (known p.new.hand) (AreStreamsOf (start_ends board))) (state_is v b at_b) (agrees_after v b at_b p)
 
-  pub actors_after : AreActors m (state_at (fired_of actors)) actors
+  pub actors_after : AreActors m (state_of_counts (fired_of actors)) actors
   actors_after = record { many = long; each = λ v b at_b. (works_after v b at_b (pair_of (v % workers) (mod_low v))).actor }
 
   -- each end is known to the hand to which it fell, with the start count and the capacity that it had

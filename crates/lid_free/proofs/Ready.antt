@@ -8,7 +8,7 @@ use Rattle.lid_station.specs.Boards.{Facts, fill, drain}
 use Rattle.lid_stations.specs.Stations.{filler, drainer}
 use Rattle.lid_board.specs.Owners.{ends_of, start_ends}
 use Rattle.lid_board.specs.Standing.{AreStreamsOf}
-use Rattle.lid_board.specs.Views.{Ends, at, facts}
+use Rattle.lid_board.specs.Views.{EndTable, at, facts}
 use Rattle.lid_board.specs.declared.board.Board.{Board}
 use Rattle.lid_board.specs.declared.hand.Hand.{Hand}
 use Rattle.lid_board.specs.declared.view.EndFacts.{EndFacts}

@@ -58,14 +58,14 @@ pub record AreSweeps (m : Plan) (made : ℕ) (tallies : List Tally) (fired passe
   pub passed_are : (station : ℕ) → station < stations_of m → get_or passed station 0 ≡ out_count m (sweeps m begun made) station
 
 -- all actors at rest, each having fired as often as its number here says
-abbrev pub state_at : List ℕ → State
-state_at fired v = record { fired = get_or fired v 0; position = 0 }
+abbrev pub state_of_counts : List ℕ → State
+state_of_counts fired v = record { fired = get_or fired v 0; position = 0 }
 
 -- the sweeps that follow the parallel phase, in which actors fired so often, bring all actors to their caps, and fewer
 -- do not; they are no more than a clocked run needs cycles for that, and each has a firing
 pub record Finishes (m : Plan) (tallies : List Tally) (fired : List ℕ) (finish finish_fired : ℕ) : Type 0 where
-  pub settled : IsSettled m (sweeps m (state_at fired) finish)
-  pub not_before : (k : ℕ) → k < finish → IsSettled m (sweeps m (state_at fired) k) → ⊥
+  pub settled : IsSettled m (sweeps m (state_of_counts fired) finish)
+  pub not_before : (k : ℕ) → k < finish → IsSettled m (sweeps m (state_of_counts fired) k) → ⊥
   pub all_fired : sum_by (λ t. t.fired) tallies + finish_fired ≡ sum_below (cap m) (actors_of m)
   pub settles : (k : ℕ) → ((v : ℕ) → v < actors_of m → fired_in m.links m.placement m.rows no_hold k v ≡ cap m v) → finish ≤ k
   pub fires : finish ≤ finish_fired

@@ -14,7 +14,7 @@ use Rattle.lid_walk.specs.Walks.{IsBoard}
 use Rattle.lid_free_crew.specs.Alone.{run_from, rounds_of}
 use Rattle.lid_free_crew.specs.Crews.{HaveWorked}
 use Rattle.lid_free.specs.Settings.{AreEndsGiven, IsCrewOf}
-use Rattle.lid_free.specs.FreeRuns.{IsShareTally, AreWithinRounds, FirstTurnsFire, state_at}
+use Rattle.lid_free.specs.FreeRuns.{IsShareTally, AreWithinRounds, FirstTurnsFire, state_of_counts}
 use Rattle.lid_free.specs.declared.setting.Boards.{Boards}
 use Rattle.lid_free.specs.declared.setting.Crew.{Crew}
 
@@ -40,9 +40,9 @@ pub record AreMachines (m : Setup) (made : ℕ) (tallies : List Tally) (fired : 
 -- all were gathered: the actors in their order, over a plain board that agrees with them
 pub record AreGathered (m : Setup) (workers made : ℕ) (pairs : List Pair) (actors : List Actor) (tallies : List Tally) : Type 0 where
   pub rules : IsSetup m
-  pub actors_are : AreActors m (state_at (fired_of actors)) actors
-  pub board : IsBoard m (state_at (fired_of actors)) pairs
-  pub sound : IsSound (plan m) (state_at (fired_of actors))
+  pub actors_are : AreActors m (state_of_counts (fired_of actors)) actors
+  pub board : IsBoard m (state_of_counts (fired_of actors)) pairs
+  pub sound : IsSound (plan m) (state_of_counts (fired_of actors))
   pub tallies_many : length tallies ≡ workers
   pub tallies_are : (i : ℕ) (t : Tally) → slice_get tallies i ≡ Some t → IsShareTally (plan m) workers made (fired_of actors) i t
   pub few : AreWithinRounds (plan m) made (fired_of actors)

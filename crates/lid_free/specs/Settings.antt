@@ -8,7 +8,7 @@ use Rattle.lid_stations.specs.declared.placement.Placement.{Placement}
 use Rattle.lid_stations.specs.Placements.{Links, links_of}
 use Rattle.lid_stations.specs.Stations.{filler, drainer}
 use Rattle.lid_board.specs.Owners.{IsOf, ends_of, start_ends}
-use Rattle.lid_board.specs.Relation.{cap_of}
+use Rattle.lid_board.specs.Relation.{capacity_of}
 use Rattle.lid_board.specs.Standing.{AreStreamsOf}
 use Rattle.lid_board.specs.Views.{at}
 use Rattle.lid_board.specs.declared.board.Board.{Board}

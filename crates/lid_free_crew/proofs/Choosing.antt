@@ -7,7 +7,7 @@ use Rattle.std.proofs.Math.Nat.{mod-lt}
 use Rattle.lid_station.specs.declared.looks.End.{End}
 use Rattle.lid_board.specs.Owners.{IsOwned, ends_of}
 use Rattle.lid_board.specs.Parting.{end_number, is_chosen, unseen}
-use Rattle.lid_board.specs.Views.{Ends, at, held_of}
+use Rattle.lid_board.specs.Views.{EndTable, at, held_of}
 use Rattle.lid_board.specs.declared.hand.Hand.{Hand}
 use Rattle.lid_board.specs.declared.view.EndFacts.{EndFacts}
 use Rattle.lid_free_crew.specs.Shares.{holder}
@@ -64,7 +64,7 @@ pub none_chosen : (e number : ℕ) (owners : List ℕ) (workers : ℕ) → is_ch
 none_chosen e number owners workers = sym (ap (λ (b : Bool). b && holder workers owners e == number) (le-ltb e 0 (omega arith)))
 
 -- the ends of one worker were cut off
-module _ (owners : List ℕ) (workers number : ℕ) (all : Ends) (ends : List End)
+module _ (owners : List ℕ) (workers number : ℕ) (all : EndTable) (ends : List End)
     (many : length owners ≡ length all) (none_seen : AreUnseen all)
     (chosen : (e : ℕ) → is_chosen ends e ≡ (nat_lt e (length owners) && holder workers owners e == number)) where
   -- an end that falls to the worker
@@ -154,10 +154,10 @@ module _ (owners : List ℕ) (workers number : ℕ) (all : Ends) (ends : List En
       ]
 
 -- no end was given yet, and all were
-pub none_given : (owners : List ℕ) (workers : ℕ) (all : Ends) (hand : Hand) → ends_of hand ≡ all → HasGivenEnds workers owners all 0 hand
+pub none_given : (owners : List ℕ) (workers : ℕ) (all : EndTable) (hand : Hand) → ends_of hand ≡ all → HasGivenEnds workers owners all 0 hand
 none_given owners workers all hand same e =
-    ap (λ (x : Ends). at x e) same ∙ sym (ap (λ (b : Bool). cond b None (at all e)) (le-ltb (holder workers owners e) 0 (omega arith)))
+    ap (λ (x : EndTable). at x e) same ∙ sym (ap (λ (b : Bool). cond b None (at all e)) (le-ltb (holder workers owners e) 0 (omega arith)))
 
-pub all_given : (owners : List ℕ) (workers : ℕ) (all : Ends) (hand : Hand) → 0 < workers → HasGivenEnds workers owners all workers hand → (e : ℕ) → at (ends_of hand) e ≡ None
+pub all_given : (owners : List ℕ) (workers : ℕ) (all : EndTable) (hand : Hand) → 0 < workers → HasGivenEnds workers owners all workers hand → (e : ℕ) → at (ends_of hand) e ≡ None
 all_given owners workers all hand some given e =
     given e ∙ ap (λ (b : Bool). cond b None (at all e)) (lt-ltb (holder workers owners e) workers (mod-lt (get_or owners e 0) some))

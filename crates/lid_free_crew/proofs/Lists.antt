@@ -3,7 +3,7 @@ use Rattle.std.proofs.Common.{◌≡◌, ℕ, zero, suc, ◌+◌, inl, inr, List
 use Rattle.std.specs.Prelude.{Some, slice_get}
 use Rattle.std.proofs.lemmas.Option.{same_Some}
 use Rattle.lid_board.specs.declared.board.Board.{Board}
-use Rattle.lid_board.specs.Views.{Ends}
+use Rattle.lid_board.specs.Views.{EndTable}
 use Rattle.lid_base.proofs.Places.{get_push}
 use Rattle.lid_free_crew.specs.Crews.{IsHired, AreHired}
 use Rattle.lid_free_crew.specs.declared.worker.Worker.{Worker}
@@ -23,7 +23,7 @@ mapped f (x ∷ xs) (y ∷ ys) long each =
     ap (λ (z : _). z ∷ ys) (same_Some y (f x) (each 0 x refl)) ∙ ap (λ (l : List _). f x ∷ l) (mapped f xs ys (omega (arith, long)) (λ i a at_a. each (suc i) a at_a))
 
 -- one worker more
-pub hired_more : (board : Board) (workers : ℕ) (owners : List ℕ) (all : Ends) (many : ℕ) (old new : List Worker) (w : Worker)
+pub hired_more : (board : Board) (workers : ℕ) (owners : List ℕ) (all : EndTable) (many : ℕ) (old new : List Worker) (w : Worker)
     → AreHired board workers owners all many old → IsHired board workers owners all many w → new ≡ old ++ w ∷ [] → AreHired board workers owners all (many + 1) new
 hired_more board workers owners all many old new w so one pushed = record {
   many_are = ap length pushed ∙ length-append old (w ∷ []) ∙ ap (λ (n : ℕ). n + 1) so.many_are;

@@ -4,7 +4,7 @@ use Rattle.lid_base.specs.Each.{from_each}
 use Rattle.lid_base.specs.declared.runs.Tally.{Tally}
 use Rattle.lid_board.specs.Owners.{IsOf, ends_of}
 use Rattle.lid_board.specs.Parting.{unseen}
-use Rattle.lid_board.specs.Views.{Ends, at}
+use Rattle.lid_board.specs.Views.{EndTable, at}
 use Rattle.lid_board.specs.declared.board.Board.{Board}
 use Rattle.lid_board.specs.declared.hand.Hand.{Hand}
 use Rattle.lid_board.specs.declared.view.EndFacts.{EndFacts}
@@ -21,15 +21,15 @@ use Rattle.lid_free_crew.specs.declared.worker.Worker.{Worker}
 use Rattle.lid_free_crew.specs.Shares.{share, holder}
 
 -- nothing is seen at the ends
-abbrev pub AreUnseen : Ends → Type 0
+abbrev pub AreUnseen : EndTable → Type 0
 AreUnseen all = (end : ℕ) (h : EndFacts) → at all end ≡ Some h → unseen h ≡ h
 
 -- a hand has the ends that fall to worker i, of these
-abbrev pub HasShare : ℕ → List ℕ → Ends → ℕ → Hand → Type 0
+abbrev pub HasShare : ℕ → List ℕ → EndTable → ℕ → Hand → Type 0
 HasShare workers owners all i hand = (end : ℕ) → at (ends_of hand) end ≡ cond (holder workers owners end == i) (at all end) None
 
 -- a hand that gave the ends to the first workers
-abbrev pub HasGivenEnds : ℕ → List ℕ → Ends → ℕ → Hand → Type 0
+abbrev pub HasGivenEnds : ℕ → List ℕ → EndTable → ℕ → Hand → Type 0
 HasGivenEnds workers owners all i hand = (end : ℕ) → at (ends_of hand) end ≡ cond (nat_lt (holder workers owners end) i) None (at all end)
 
 -- a hand without ends
@@ -37,7 +37,7 @@ abbrev pub HasNone : Hand → Type 0
 HasNone hand = (end : ℕ) → at (ends_of hand) end ≡ None
 
 -- worker i before it has actors
-pub record IsHired (board : Board) (workers : ℕ) (owners : List ℕ) (all : Ends) (i : ℕ) (w : Worker) : Type 0 where
+pub record IsHired (board : Board) (workers : ℕ) (owners : List ℕ) (all : EndTable) (i : ℕ) (w : Worker) : Type 0 where
   pub number : w.number ≡ i
   pub of : IsOf w.hand board
   pub hand : HasShare workers owners all i w.hand
@@ -45,7 +45,7 @@ pub record IsHired (board : Board) (workers : ℕ) (owners : List ℕ) (all : En
   pub idle : w.actors.items ≡ []
 
 -- the first workers
-pub record AreHired (board : Board) (workers : ℕ) (owners : List ℕ) (all : Ends) (many : ℕ) (crew : List Worker) : Type 0 where
+pub record AreHired (board : Board) (workers : ℕ) (owners : List ℕ) (all : EndTable) (many : ℕ) (crew : List Worker) : Type 0 where
   pub many_are : length crew ≡ many
   pub each : (i : ℕ) (w : Worker) → slice_get crew i ≡ Some w → IsHired board workers owners all i w
 

@@ -15,7 +15,7 @@ use Rattle.lid_design.specs.declared.Bind.{Bind}
 use Rattle.lid_base.specs.Each.{from_each}
 use Rattle.lid_gen.specs.declared.fault.GenFault.{GenFault}
 use Rattle.lid_gen.specs.declared.fault.GenFault.TheVariants.{Size}
-use Rattle.lid_gen.specs.Draws.{first_state, after, drawn}
+use Rattle.lid_gen.specs.Draws.{first_state, state_after, drawn}
 
 -- a word and a digit
 abbrev pub numbered : List ℕ → ℕ → List ℕ
@@ -135,7 +135,7 @@ root_model s shells = record {
   inputs = from_each input_name 0 4;
   outputs = from_each output_name 0 4;
   clocks = [];
-  cells = from_each (buffer_at (after (2 * shells) s) shells) 0 4;
+  cells = from_each (buffer_at (state_after (2 * shells) s) shells) 0 4;
   insts = from_each (shell_at s shells) 0 shells;
 }
 

@@ -10,11 +10,11 @@ abbrev pub moved : ℕ → ℕ
 moved s = (75 * s + 74) % 65537
 
 -- the state after so many draws from a state on
-unfoldable pub after : ℕ → ℕ → ℕ
-after zero s = s
-after (suc k) s = moved (after k s)
+unfoldable pub state_after : ℕ → ℕ → ℕ
+state_after zero s = s
+state_after (suc k) s = moved (state_after k s)
 
 -- what a draw answers that comes after k draws from a state on, where one of n numbers is wanted: the
 -- state moves first
 abbrev pub drawn : ℕ → ℕ → ℕ → ℕ
-drawn s k n = moved (after k s) % n
+drawn s k n = moved (state_after k s) % n

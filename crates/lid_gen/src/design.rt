@@ -3,7 +3,7 @@
 ghost use Rattle.std.specs.Prelude.{◌≡◌, ◌⊎◌, ◌≤◌, ◌<◌, ◌+◌, ◌*◌, ◌++◌, ◌∷◌, [], codes, None, Some, IfOk, IfErr, OnOk};
 ghost use Rattle.lid_base.specs.Each.{from_each};
 ghost use Rattle.lid_gen.specs.declared.fault.GenFault.TheVariants.{Memory};
-ghost use Rattle.lid_gen.specs.Draws.{first_state, after};
+ghost use Rattle.lid_gen.specs.Draws.{first_state, state_after};
 ghost use Rattle.lid_gen.specs.Designs.{input_name, output_name, kind_name, kind_model, shell_at, buffer_at, root_model, generated, size_fault};
 
 use crate::cells::{buffer, kind_cells, two_letters};
@@ -86,7 +86,7 @@ fn root_ports(alloc: Global) -> Result<Ports, AllocError>
 fn root_insts(alloc: Global, shells: u32, draws: &mut Draws) -> Result<Items<Inst>, AllocError>
     requires { shells ≤ 2000 }
     ensures insts { IfOk result (λ insts. insts ≡ from_each (shell_at draws.old.state shells) 0 shells) }
-    ensures state { OnOk result (draws.new.state ≡ after (2 * shells) draws.old.state) }
+    ensures state { OnOk result (draws.new.state ≡ state_after (2 * shells) draws.old.state) }
 {
     let mut insts = Vec::with_capacity(alloc, shells as usize)?;
     for i in 0..shells {

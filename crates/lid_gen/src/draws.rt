@@ -1,7 +1,7 @@
 //! The draws: a sequence of numbers that follows from a seed.
 
 ghost use Rattle.std.specs.Prelude.{◌≡◌, ◌<◌, ◌%◌};
-ghost use Rattle.lid_gen.specs.Draws.{first_state, moved, after};
+ghost use Rattle.lid_gen.specs.Draws.{first_state, moved, state_after};
 
 /// All states are below this prime.
 const MODULUS: u64 = 65537;
@@ -37,7 +37,7 @@ impl Draws {
 
     /// Makes so many draws and drops their answers.
     pub fn skip(&mut self, count: u32)
-        ensures { self.new.state ≡ after count self.old.state }
+        ensures { self.new.state ≡ state_after count self.old.state }
     {
         for _ in 0..count {
             let _answer = self.draw(1);

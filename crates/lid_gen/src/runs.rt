@@ -1,7 +1,7 @@
 //! The rows and the relay stations of a run.
 
 ghost use Rattle.std.specs.Prelude.{◌≡◌, ◌≤◌, ◌*◌, IfOk, OnOk};
-ghost use Rattle.lid_gen.specs.Draws.{after};
+ghost use Rattle.lid_gen.specs.Draws.{state_after};
 ghost use Rattle.lid_gen.specs.Runs.{row_from, rows_from, generated_rows, generated_relays};
 
 use crate::draws::Draws;
@@ -13,7 +13,7 @@ use std::alloc::{AllocError, Global};
 /// A row of four bits.
 fn draw_row(alloc: Global, draws: &mut Draws) -> Result<Items<bool>, AllocError>
     ensures row { IfOk result (λ row. row ≡ row_from draws.old.state) }
-    ensures state { OnOk result (draws.new.state ≡ after 4 draws.old.state) }
+    ensures state { OnOk result (draws.new.state ≡ state_after 4 draws.old.state) }
 {
     let mut bits = Vec::with_capacity(alloc, 4)?;
     for _ in 0..4u32 {

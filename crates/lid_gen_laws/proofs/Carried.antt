@@ -9,8 +9,8 @@ use Rattle.lid_design.specs.Network.{Driver, from_cover, from_connection}
 use Rattle.lid_design.specs.Columns.{Column, drivers}
 use Rattle.lid_system.specs.declared.Channel.{Channel}
 use Rattle.lid_net_channels.specs.declared.reads.Read.{Read}
-use Rattle.lid_net_channels.specs.Reads.{IsBefore, AreAscending}
-use Rattle.lid_net_channels.specs.Pieces.{read_by, reads_in, AreCut}
+use Rattle.lid_net_channels.specs.Reads.{IsReadBefore, AreAscending}
+use Rattle.lid_net_channels.specs.Pieces.{read_at, reads_in, AreCut}
 use Rattle.lid_net_law.specs.Ports.{IsPassedOn}
 use Rattle.lid_net.specs.declared.origin.Origin.TheVariants.{Port}
 use Rattle.lid_net.specs.Graphs.{inputs_of, LeadsIn, LeadsTo, IsReadBy, IsGraphOf}
@@ -59,13 +59,13 @@ sent {A} {B} R (x ∷ xs) ys apart to one =
         by at = elim (less.others at.0 at.1) [ inl same ↦ absurd (apart.0 (subst (λ (v : A). Among v xs) (one z x y (subst (R z) same at.2) sent_to) among)) | inr there ↦ (at.0, there, at.2) ]
 
 -- reads in order are apart
-before_none : (r : Read) → ¬ IsBefore r r
+before_none : (r : Read) → ¬ IsReadBefore r r
 before_none r (inl h) = omega arith
 before_none r (inr h) = elim h.1 [ inl less ↦ (omega arith) | inr same ↦ (let less = same.1 in omega arith) ]
 
 ascending_apart : (rs : List Read) → AreAscending rs → AreOnce rs
 ascending_apart [] ascending = tt
-ascending_apart (r ∷ rs) ascending = (λ among. before_none r (all_among (IsBefore r) rs r ascending.0 among), ascending_apart rs ascending.1)
+ascending_apart (r ∷ rs) ascending = (λ among. before_none r (all_among (IsReadBefore r) rs r ascending.0 among), ascending_apart rs ascending.1)
 
 -- each channel carries a port
 some_ports : (channels : List Channel) → AreCut channels → (c : Channel) → Among c channels → 0 < length c.ports
@@ -84,7 +84,7 @@ fewer (c ∷ cs) some =
     let first = some c (inl refl) in
     let later = fewer cs (λ d among. some d (inr among)) in
     let count = length-append (reads_in c) (flat_map reads_in cs) in
-    let ports = length-map c.ports (read_by c) in
+    let ports = length-map c.ports (read_at c) in
     omega (arith, first, later, count, ports)
 
 -- an input of node m + 1

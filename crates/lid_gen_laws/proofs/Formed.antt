@@ -8,7 +8,7 @@ use Rattle.lid_design.specs.declared.Model.{Model}
 use Rattle.lid_design.specs.Columns.{model_named}
 use Rattle.lid_base.specs.Each.{from_each}
 use Rattle.lid_design.specs.WellFormed.{IsWellFormedCell, IsWellFormed}
-use Rattle.lid_gen.specs.Draws.{drawn, after}
+use Rattle.lid_gen.specs.Draws.{drawn, state_after}
 use Rattle.lid_gen.specs.Designs.{count_places, kind_name, kind_cells, shell_at, buffer, buffer_at, unequal, kind_cover, root_model, made}
 use Rattle.lid_cover.specs.Cover.{IsCover}
 use Rattle.lid_check_laws.specs.Plain.{root_drivers, cells_below, nets_below}
@@ -51,7 +51,7 @@ module _ (s n : ℕ) where
         few = omega arith;
         distinct = ((refl, (refl, (refl, (refl, tt)))), ((refl, (refl, (refl, tt))), ((refl, (refl, tt)), ((refl, tt), (tt, tt)))));
         insts = (omega (arith, count, few), (omega arith, (omega arith, (omega arith, (omega arith, tt)))));
-        cells = (all_each IsWellFormedCell (buffer_at (after (2 * n) s) n) 0 4 (λ j. buffer_formed j (drawn (after (2 * n) s) j (count_places n))), (cells_formed 0 (omega arith), (cells_formed 1 (omega arith), (cells_formed 2 (omega arith), (cells_formed 3 (omega arith), tt)))));
+        cells = (all_each IsWellFormedCell (buffer_at (state_after (2 * n) s) n) 0 4 (λ j. buffer_formed j (drawn (state_after (2 * n) s) j (count_places n))), (cells_formed 0 (omega arith), (cells_formed 1 (omega arith), (cells_formed 2 (omega arith), (cells_formed 3 (omega arith), tt)))));
       }
 
   kind_size : (k : ℕ) → k < 4 → (option_map_or (λ m. length m.cells) (model_named (made s n) (kind_name k)) 0 ≡ 4) × (option_map_or (λ m. length m.inputs + length m.cells) (model_named (made s n) (kind_name k)) 0 ≡ 6)

@@ -6,7 +6,7 @@ use Rattle.lid_cover.specs.declared.Cover.{Cover}
 use Rattle.lid_design.specs.declared.Cell.TheVariants.{Names}
 use Rattle.lid_design.specs.declared.Model.{Model}
 use Rattle.lid_base.specs.Each.{from_each}
-use Rattle.lid_gen.specs.Draws.{after, drawn}
+use Rattle.lid_gen.specs.Draws.{state_after, drawn}
 use Rattle.lid_gen.specs.Designs.{input_name, output_name, shell_net, letter_of, net_at, count_places, kind_model, buffer_at, one_input, root_model}
 use Rattle.lid_check_laws.specs.Plain.{AreAmong, IsRising}
 use Rattle.lid_gen_laws.proofs.Each.{each_among, among_each}
@@ -103,11 +103,11 @@ root_rises s n = rise n (root_model s n) each
   where
     each : (inputs : List (List ℕ)) (out : List ℕ) (cover : Cover) → Among (Names inputs out cover) (root_model s n).cells → AreAmong inputs (low n) × Among out high
     each inputs out cover there =
-        let at = each_among (buffer_at (after (2 * n) s) n) 4 (Names inputs out cover) there in
-        let place = drawn (after (2 * n) s) at.0 (count_places n) in
+        let at = each_among (buffer_at (state_after (2 * n) s) n) 4 (Names inputs out cover) there in
+        let place = drawn (state_after (2 * n) s) at.0 (count_places n) in
         let reads : inputs ≡ net_at place ∷ [] = (let e : Names inputs out cover ≡ Names (net_at place ∷ []) (output_name at.0) one_input = at.2 in cc) in
         let drives : out ≡ output_name at.0 = (let e : Names inputs out cover ≡ Names (net_at place ∷ []) (output_name at.0) one_input = at.2 in cc) in (
-          λ name among. by place (place_few s n (after (2 * n) s) at.0) name (subst (λ (names : List (List ℕ)). Among name names) reads among),
+          λ name among. by place (place_few s n (state_after (2 * n) s) at.0) name (subst (λ (names : List (List ℕ)). Among name names) reads among),
           inr (inr (subst (λ (x : List ℕ). Among x (from_each output_name 0 4)) (sym drives) (among_each output_name 4 at.0 at.1))),
         )
       where

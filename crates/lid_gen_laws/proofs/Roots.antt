@@ -11,7 +11,7 @@ use Rattle.lid_design.specs.declared.Cell.{Cell}
 use Rattle.lid_design.specs.declared.Inst.{Inst}
 use Rattle.lid_base.specs.Each.{from_each}
 use Rattle.lid_design.specs.Models.{cell_reads, driven_by, actual_names, is_buffer, is_constant}
-use Rattle.lid_gen.specs.Draws.{moved, after, drawn}
+use Rattle.lid_gen.specs.Draws.{moved, state_after, drawn}
 use Rattle.lid_gen.specs.Designs.{input_name, output_name, shell_net, before, count_places, kind_model, shell, shell_at, buffer, buffer_at, root_model, made}
 use Rattle.lid_check_laws.specs.Plain.{AreAmong, IsPlainInst, root_drivers, IsPlainRoot}
 use Rattle.lid_gen_laws.proofs.Each.{each_among}
@@ -24,10 +24,10 @@ module _ (s n : ℕ) where
   kind_of i = drawn s (2 * i) 4
 
   pub kind_few : (i : ℕ) → drawn s (2 * i) 4 < 4
-  kind_few i = mod-lt (moved (after (2 * i) s)) (omega arith)
+  kind_few i = mod-lt (moved (state_after (2 * i) s)) (omega arith)
 
   pub place_few : (s' k : ℕ) → drawn s' k (count_places n) < count_places n
-  place_few s' k = mod-lt (moved (after k s')) (omega arith)
+  place_few s' k = mod-lt (moved (state_after k s')) (omega arith)
 
   all_drive : (k m : ℕ) → flat_map (driven_by (made s n)) (from_each (shell_at s n) k m) ≡ outs k m
   all_drive k zero = refl
@@ -56,8 +56,8 @@ module _ (s n : ℕ) where
       of_cells : Among name (flat_map cell_reads (root_model s n).cells) → Among name (drives n)
       of_cells among =
           let found = flat_among cell_reads name (root_model s n).cells among in
-          let at = each_among (buffer_at (after (2 * n) s) n) 4 found.0 found.1 in
-          of_cell at.0 (drawn (after (2 * n) s) at.0 (count_places n)) (place_few (after (2 * n) s) at.0) (subst (λ (cell : Cell). Among name (cell_reads cell)) at.2 found.2)
+          let at = each_among (buffer_at (state_after (2 * n) s) n) 4 found.0 found.1 in
+          of_cell at.0 (drawn (state_after (2 * n) s) at.0 (count_places n)) (place_few (state_after (2 * n) s) at.0) (subst (λ (cell : Cell). Among name (cell_reads cell)) at.2 found.2)
 
       of_inst : (i k place : ℕ) → i < n → place < count_places n → Among name (actual_names (shell i k place)) → Among name (drives n)
       of_inst i k place less few (inl is) = subst (λ (x : List ℕ). Among x (drives n)) (sym is) (before_driven i less)
@@ -83,8 +83,8 @@ module _ (s n : ℕ) where
   buffers : (cell : Cell) → Among cell (root_model s n).cells → (is_buffer cell || is_constant cell) ≡ true
   unfolding cover_value
   buffers cell among =
-      let at = each_among (buffer_at (after (2 * n) s) n) 4 cell among in
-      subst (λ (cell : Cell). (is_buffer cell || is_constant cell) ≡ true) (sym at.2) (one at.0 (drawn (after (2 * n) s) at.0 (count_places n)))
+      let at = each_among (buffer_at (state_after (2 * n) s) n) 4 cell among in
+      subst (λ (cell : Cell). (is_buffer cell || is_constant cell) ≡ true) (sym at.2) (one at.0 (drawn (state_after (2 * n) s) at.0 (count_places n)))
     where
       one : (j place : ℕ) → (is_buffer (buffer j place) || is_constant (buffer j place)) ≡ true
       one j place = refl

@@ -11,7 +11,7 @@ use Rattle.lid_base_lines.proofs.Numbers.{spelled_word}
 use Rattle.lid_base_lines.proofs.Pieces.{line_text_cons, lines_text_append}
 use Rattle.lid_blifout.specs.Canonical.{listed, cell_lines, inst_line, bind_word, model_lines, models_lines, canonical_text}
 use Rattle.lid_blifout.specs.Writable.{IsWritableCell, IsWritableBind, IsWritableInst, IsWritableModel, model_rows, IsWritable}
-use Rattle.lid_gen.specs.Draws.{after, drawn}
+use Rattle.lid_gen.specs.Draws.{state_after, drawn}
 use Rattle.lid_gen.specs.Designs.{input_name, output_name, shell_net, net_at, before, count_places, kind_name, kind_model, kind_cover, bound, shell, shell_at, buffer, buffer_at, root_model, made}
 use Rattle.lid_gen_laws.proofs.Each.{all_below}
 use Rattle.lid_gen_laws.proofs.Roots.{kind_few, place_few}
@@ -127,8 +127,8 @@ module _ (s n : ℕ) (few : n ≤ 2000) where
   shells_written : AllByRecursion IsWritten (root_model s n).insts
   shells_written = all_below IsWritten (shell_at s n) n (λ i less. shell_written i (drawn s (2 * i) 4) (drawn s (2 * i + 1) (count_places n)) (omega (arith, few, less)) (kind_few s n i) (place_short (drawn s (2 * i + 1) (count_places n)) (place_few s n s (2 * i + 1))))
 
-  buffers_at : (j : ℕ) → j < 4 → IsWritableCell (buffer_at (after (2 * n) s) n j) × AllByRecursion IsShort (cell_lines (buffer_at (after (2 * n) s) n j))
-  buffers_at j less = let place = drawn (after (2 * n) s) j (count_places n) in buffer_written j place less (place_short place (place_few s n (after (2 * n) s) j))
+  buffers_at : (j : ℕ) → j < 4 → IsWritableCell (buffer_at (state_after (2 * n) s) n j) × AllByRecursion IsShort (cell_lines (buffer_at (state_after (2 * n) s) n j))
+  buffers_at j less = let place = drawn (state_after (2 * n) s) j (count_places n) in buffer_written j place less (place_short place (place_few s n (state_after (2 * n) s) j))
 
   insts_of : (insts : List Inst) → AllByRecursion IsWritten insts → AllByRecursion IsWritableInst insts × AllByRecursion IsShort (map inst_line insts)
   insts_of [] all = (tt, tt)
@@ -140,7 +140,7 @@ module _ (s n : ℕ) (few : n ≤ 2000) where
     inputs = all_below (IsSpelled 1024) input_name 4 (λ j less. named (input_name j) (input_word j less));
     outputs = all_below (IsSpelled 1024) output_name 4 (λ j less. named (output_name j) (output_word j less));
     clocks = tt;
-    cells = all_below IsWritableCell (buffer_at (after (2 * n) s) n) 4 (λ j less. (buffers_at j less).0);
+    cells = all_below IsWritableCell (buffer_at (state_after (2 * n) s) n) 4 (λ j less. (buffers_at j less).0);
     insts = (insts_of (root_model s n).insts shells_written).0;
   }
 
@@ -149,7 +149,7 @@ module _ (s n : ℕ) (few : n ≤ 2000) where
   header =
       (codes ".model" ∷ codes "gen" ∷ [])
       ∷ listed (codes ".inputs") (from_each input_name 0 4)
-      ++ (listed (codes ".outputs") (from_each output_name 0 4) ++ flat_map cell_lines (from_each (buffer_at (after (2 * n) s) n) 0 4))
+      ++ (listed (codes ".outputs") (from_each output_name 0 4) ++ flat_map cell_lines (from_each (buffer_at (state_after (2 * n) s) n) 0 4))
 
   shorter : (word : List ℕ) → IsSpelled 30 word → length word ≤ 40
   shorter word is = omega (arith, is.short)

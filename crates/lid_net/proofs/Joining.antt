@@ -30,8 +30,8 @@ use Rattle.lid_net_law.specs.Agreement.{column_of, LeadsBack, IsLed, AreLed, IsP
 use Rattle.lid_net_law.specs.Ports.{IsPassedOn, outputs_at, ports_of, IsPort}
 use Rattle.lid_net_law.proofs.Leading.{carried_column}
 use Rattle.lid_net_channels.specs.declared.reads.Read.{Read}
-use Rattle.lid_net_channels.specs.Reads.{IsBefore, AreAscending}
-use Rattle.lid_net_channels.specs.Pieces.{read_by, reads_in, AreCut, AreChannelsOf}
+use Rattle.lid_net_channels.specs.Reads.{IsReadBefore, AreAscending}
+use Rattle.lid_net_channels.specs.Pieces.{read_at, reads_in, AreCut, AreChannelsOf}
 use Rattle.lid_net_channels.specs.Bits.{IsBitOf, Carries}
 use Rattle.lid_net.specs.declared.origin.Origin.{Origin}
 use Rattle.lid_net.specs.declared.origin.Origin.TheVariants.{Const, Port}
@@ -367,8 +367,8 @@ module _ (d : Design) (parts : List ShellPart) (origins : List (Option Origin)) 
           let x : made.are.ins ≡ ins = cc in
           (n, subst (λ (cs : List Column). AreLed d s cols cs ins) made.outputs.columns_are (subst (λ (xs : List InBit). AreLed d s cols (map (column_at d) made.numbers) xs) x (all_led (length parts + 1) made.numbers made.are.ins made.outputs.below made.are.bits)))
 
-  read_in : (c : Channel) (port : ℕ) → Among c channels → Among port c.ports → IsReadBy d (read_by c port)
-  read_in c port here there = (leads.exact (read_by c port)).0 (subst (λ (rs : List Read). Among (read_by c port) rs) cut.carry (among_flat reads_in c (read_by c port) channels here (among_map (read_by c) port c.ports there)))
+  read_in : (c : Channel) (port : ℕ) → Among c channels → Among port c.ports → IsReadBy d (read_at c port)
+  read_in c port here there = (leads.exact (read_at c port)).0 (subst (λ (rs : List Read). Among (read_at c port) rs) cut.carry (among_flat reads_in c (read_at c port) channels here (among_map (read_at c) port c.ports there)))
 
   channel_is : (c : Channel) → Among c channels → IsChannel s c
   channel_is c here =

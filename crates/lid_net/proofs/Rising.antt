@@ -8,25 +8,25 @@ use Rattle.lid_base.proofs.Lists.{all_among, among_left, among_right, among_flat
 use Rattle.lid_system.specs.declared.Channel.{Channel}
 use Rattle.lid_system.specs.Systems.{Precedes}
 use Rattle.lid_net_channels.specs.declared.reads.Read.{Read}
-use Rattle.lid_net_channels.specs.Reads.{IsBefore, AreAscending}
-use Rattle.lid_net_channels.specs.Pieces.{read_by, reads_in, is_beside, IsPieceAfter, IsNextPiece, AreCut}
+use Rattle.lid_net_channels.specs.Reads.{IsReadBefore, AreAscending}
+use Rattle.lid_net_channels.specs.Pieces.{read_at, reads_in, is_beside, IsPieceAfter, IsNextPiece, AreCut}
 use Rattle.std.proofs.lemmas.Bool.{eq-eqb}
 use Rattle.lid_base.proofs.Alls.{all_from_among}
 
 -- what ascends in two parts
-parts_ascend : (xs ys : List Read) → AreAscending (xs ++ ys) → AreAscending xs × ((x y : Read) → Among x xs → Among y ys → IsBefore x y)
+parts_ascend : (xs ys : List Read) → AreAscending (xs ++ ys) → AreAscending xs × ((x y : Read) → Among x xs → Among y ys → IsReadBefore x y)
 parts_ascend [] ys h = (tt, λ x y i j. absurd i)
 parts_ascend (r ∷ xs) ys h =
     let later = parts_ascend xs ys h.1 in
-    ((all_from_among (IsBefore r) xs (λ x i. all_among (IsBefore r) (xs ++ ys) x h.0 (among_left x xs ys i)), later.0), both later.1)
+    ((all_from_among (IsReadBefore r) xs (λ x i. all_among (IsReadBefore r) (xs ++ ys) x h.0 (among_left x xs ys i)), later.0), both later.1)
   where
-    both : ((x y : Read) → Among x xs → Among y ys → IsBefore x y) → (x y : Read) → Among x (r ∷ xs) → Among y ys → IsBefore x y
-    both later x y (inl e) j = subst (λ (z : Read). IsBefore z y) (sym e) (all_among (IsBefore r) (xs ++ ys) y h.0 (among_right y xs ys j))
+    both : ((x y : Read) → Among x xs → Among y ys → IsReadBefore x y) → (x y : Read) → Among x (r ∷ xs) → Among y ys → IsReadBefore x y
+    both later x y (inl e) j = subst (λ (z : Read). IsReadBefore z y) (sym e) (all_among (IsReadBefore r) (xs ++ ys) y h.0 (among_right y xs ys j))
     both later x y (inr i) j = later x y i j
 
 -- all that a channel carries comes before all that a later one does
 abbrev Comes : Channel → Channel → Type 0
-Comes c e = (p q : ℕ) → Among p c.ports → Among q e.ports → IsBefore (read_by c p) (read_by e q)
+Comes c e = (p q : ℕ) → Among p c.ports → Among q e.ports → IsReadBefore (read_at c p) (read_at e q)
 
 -- of channels, the last first
 abbrev Descend : List Channel → Type 0
@@ -48,9 +48,9 @@ descend (e ∷ before) h =
     let whole : flat_map reads_in (reverse (e ∷ before)) ≡ flat_map reads_in (reverse before) ++ reads_in e =
     ap (flat_map reads_in) (reverse-append (e ∷ []) before) ∙ flat_map-append reads_in (reverse before) (e ∷ []) ∙ ap (λ (rs : List Read). flat_map reads_in (reverse before) ++ rs) (append-nil (reads_in e)) in
     let parts = parts_ascend (flat_map reads_in (reverse before)) (reads_in e) (subst AreAscending whole h) in (
-      all_from_among (λ c. Comes c e) before (λ c i p q j k. parts.1 (read_by c p) (read_by e q)
-          (among_flat reads_in c (read_by c p) (reverse before) (turned c before i) (among_map (read_by c) p c.ports j))
-          (among_map (read_by e) q e.ports k)),
+      all_from_among (λ c. Comes c e) before (λ c i p q j k. parts.1 (read_at c p) (read_at e q)
+          (among_flat reads_in c (read_at c p) (reverse before) (turned c before i) (among_map (read_at c) p c.ports j))
+          (among_map (read_at e) q e.ports k)),
       descend before parts.0,
     )
 
@@ -77,7 +77,7 @@ neighbours c e some more comes piece =
     let q = head_of e.ports more in
     by (comes p.0 q.0 p.1 q.1)
   where
-    by : {p q : ℕ} → IsBefore (read_by c p) (read_by e q) → Precedes c e
+    by : {p q : ℕ} → IsReadBefore (read_at c p) (read_at e q) → Precedes c e
     by (inl h) = inl h
     by (inr (from, inl h)) = inr (from, inl h)
     by (inr (from, inr (to, h))) =

@@ -10,8 +10,8 @@ use Rattle.lid_base.specs.Lists.{Among}
 use Rattle.lid_base.proofs.Lists.{all_among, among_left, among_right}
 use Rattle.lid_system.specs.declared.Channel.{Channel}
 use Rattle.lid_net_channels.specs.declared.reads.Read.{Read}
-use Rattle.lid_net_channels.specs.Pieces.{read_by, reads_in, is_beside, IsPieceAfter, IsNextPiece, AreCut, AreChannelsOf}
-use Rattle.lid_net_channels.specs.Cutting.{begun, with_port, is_between, piece_for, extended, placed_read, grown, cut_back, last_width, joins, ArePieced}
+use Rattle.lid_net_channels.specs.Pieces.{read_at, reads_in, is_beside, IsPieceAfter, IsNextPiece, AreCut, AreChannelsOf}
+use Rattle.lid_net_channels.specs.Cutting.{new_channel, with_port, is_between, piece_for, extended, placed_read, grown, cut_back, last_width, joins, ArePieced}
 
 -- one read more is the first of those that come last first
 pub one_more : (reads : List Read) (i : ℕ) (r : Read) → i < length reads → r ≡ get_or reads i r → reverse (take (i + 1) reads) ≡ r ∷ reverse (take i reads)
@@ -31,7 +31,7 @@ pub record Tops (r : Read) (channels : List Channel) : Type 0 where
   pub some : 0 < length c.ports
 
 tops : (r : Read) (channels : List Channel) → Tops r (grown r channels)
-tops r [] = record { c = begun r 0; before = []; is = refl; from = refl; to = refl; some = omega arith }
+tops r [] = record { c = new_channel r 0; before = []; is = refl; from = refl; to = refl; some = omega arith }
 tops r (c ∷ before) = by (is_between c r) refl (nat_lt (length c.ports) 31)
   where
     by : (b : Bool) → is_between c r ≡ b → (room : Bool) → Tops r (placed_read r (c ∷ before) (cond b (cond room None (Some (c.piece + 1))) (Some 0)))
@@ -43,8 +43,8 @@ tops r (c ∷ before) = by (is_between c r) refl (nat_lt (length c.ports) 31)
       to = eqb-true c.to r.to ((and_parts (eqb c.from r.from) (eqb c.to r.to) e).1);
       some = let l = length-append c.ports (r.port ∷ []) in omega arith;
     }
-    by true e false = record { c = begun r (c.piece + 1); before = c ∷ before; is = refl; from = refl; to = refl; some = omega arith }
-    by false e room = record { c = begun r 0; before = c ∷ before; is = refl; from = refl; to = refl; some = omega arith }
+    by true e false = record { c = new_channel r (c.piece + 1); before = c ∷ before; is = refl; from = refl; to = refl; some = omega arith }
+    by false e room = record { c = new_channel r 0; before = c ∷ before; is = refl; from = refl; to = refl; some = omega arith }
 
 -- the last channel joins the nodes of a read where the last read does
 pub record Meets (rs : List Read) (r : Read) (channels : List Channel) (b : Bool) : Type 0 where
@@ -104,7 +104,7 @@ widens r (c ∷ before) b none some = by (is_between c r) refl (nat_lt (length c
           count = ap length shape ∙ no_one ∙ ap (λ (x : Bool). length (c ∷ before) + cond x 1 0) (sym more) ∙ ap (λ (n : ℕ). length (c ∷ before) + cond (eqb n 1) 1 0) (sym now);
         }
     by true e false less =
-        let shape : grown r (c ∷ before) ≡ begun r (c.piece + 1) ∷ c ∷ before = ap (λ (x : Bool). placed_read r (c ∷ before) (cond x (cond (nat_lt (length c.ports) 31) None (Some (c.piece + 1))) (Some 0))) e ∙ ap (λ (x : Bool). placed_read r (c ∷ before) (cond x None (Some (c.piece + 1)))) less in
+        let shape : grown r (c ∷ before) ≡ new_channel r (c.piece + 1) ∷ c ∷ before = ap (λ (x : Bool). placed_read r (c ∷ before) (cond x (cond (nat_lt (length c.ports) 31) None (Some (c.piece + 1))) (Some 0))) e ∙ ap (λ (x : Bool). placed_read r (c ∷ before) (cond x None (Some (c.piece + 1)))) less in
         let now : last_width (grown r (c ∷ before)) ≡ 1 = ap last_width shape in
         record {
           apart = λ f. sym now;
@@ -113,7 +113,7 @@ widens r (c ∷ before) b none some = by (is_between c r) refl (nat_lt (length c
           count = ap length shape ∙ new_one ∙ ap (λ (n : ℕ). length (c ∷ before) + cond (eqb n 1) 1 0) (sym now);
         }
     by false e room less =
-        let shape : grown r (c ∷ before) ≡ begun r 0 ∷ c ∷ before = ap (λ (x : Bool). placed_read r (c ∷ before) (cond x (cond (nat_lt (length c.ports) 31) None (Some (c.piece + 1))) (Some 0))) e in
+        let shape : grown r (c ∷ before) ≡ new_channel r 0 ∷ c ∷ before = ap (λ (x : Bool). placed_read r (c ∷ before) (cond x (cond (nat_lt (length c.ports) 31) None (Some (c.piece + 1))) (Some 0))) e in
         let now : last_width (grown r (c ∷ before)) ≡ 1 = ap last_width shape in
         record {
           apart = λ f. sym now;
@@ -208,8 +208,8 @@ cut_grown r (c ∷ before) h = by (is_between c r) refl (nat_lt (length c.ports)
     longer : length (c.ports ++ r.port ∷ []) ≡ length c.ports + 1
     longer = length-append c.ports (r.port ∷ [])
 
-    beside : (v : Bool) (piece : ℕ) → is_between c r ≡ v → IsPieceAfter v c (begun r piece) → IsNextPiece (begun r piece) (c ∷ before)
-    beside v piece e p = subst (λ (x : Bool). IsPieceAfter x c (begun r piece)) (sym e) p
+    beside : (v : Bool) (piece : ℕ) → is_between c r ≡ v → IsPieceAfter v c (new_channel r piece) → IsNextPiece (new_channel r piece) (c ∷ before)
+    beside v piece e p = subst (λ (x : Bool). IsPieceAfter x c (new_channel r piece)) (sym e) p
 
     next : (bs : List Channel) → IsNextPiece c bs → IsNextPiece (with_port c r) bs
     next [] p = p
@@ -233,15 +233,15 @@ carry_grown : (r : Read) (channels : List Channel) → flat_map reads_in (revers
 carry_grown r [] = refl
 carry_grown r (c ∷ before) = by (is_between c r) refl (nat_lt (length c.ports) 31)
   where
-    new : (piece : ℕ) → flat_map reads_in (reverse (begun r piece ∷ c ∷ before)) ≡ flat_map reads_in (reverse (c ∷ before)) ++ r ∷ []
-    new piece = ap (flat_map reads_in) (reverse-append (begun r piece ∷ []) (c ∷ before)) ∙ flat_map-append reads_in (reverse (c ∷ before)) (begun r piece ∷ [])
+    new : (piece : ℕ) → flat_map reads_in (reverse (new_channel r piece ∷ c ∷ before)) ≡ flat_map reads_in (reverse (c ∷ before)) ++ r ∷ []
+    new piece = ap (flat_map reads_in) (reverse-append (new_channel r piece ∷ []) (c ∷ before)) ∙ flat_map-append reads_in (reverse (c ∷ before)) (new_channel r piece ∷ [])
 
     by : (v : Bool) → is_between c r ≡ v → (room : Bool) → flat_map reads_in (reverse (placed_read r (c ∷ before) (cond v (cond room None (Some (c.piece + 1))) (Some 0)))) ≡ flat_map reads_in (reverse (c ∷ before)) ++ r ∷ []
     by true e true =
         let from = eqb-true c.from r.from ((and_parts (eqb c.from r.from) (eqb c.to r.to) e).0) in
         let to = eqb-true c.to r.to ((and_parts (eqb c.from r.from) (eqb c.to r.to) e).1) in
-        let one : read_by c r.port ≡ r = ap (λ (n : ℕ). record { from = n; to = c.to; port = r.port }) from ∙ ap (λ (n : ℕ). record { from = r.from; to = n; port = r.port }) to in
-        let last : reads_in (with_port c r) ≡ reads_in c ++ r ∷ [] = map-append (read_by c) c.ports (r.port ∷ []) ∙ ap (λ (x : Read). reads_in c ++ x ∷ []) one in
+        let one : read_at c r.port ≡ r = ap (λ (n : ℕ). record { from = n; to = c.to; port = r.port }) from ∙ ap (λ (n : ℕ). record { from = r.from; to = n; port = r.port }) to in
+        let last : reads_in (with_port c r) ≡ reads_in c ++ r ∷ [] = map-append (read_at c) c.ports (r.port ∷ []) ∙ ap (λ (x : Read). reads_in c ++ x ∷ []) one in
         ap (flat_map reads_in) (reverse-append (with_port c r ∷ []) before)
         ∙ flat_map-append reads_in (reverse before) (with_port c r ∷ [])
         ∙ ap (λ (xs : List Read). flat_map reads_in (reverse before) ++ xs) (append-nil (reads_in (with_port c r)) ∙ last)

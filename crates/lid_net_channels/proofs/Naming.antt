@@ -8,7 +8,7 @@ use Rattle.lid_system.specs.declared.Channel.{Channel}
 use Rattle.lid_system.specs.declared.InBit.{InBit}
 use Rattle.lid_system.specs.declared.InBit.TheVariants.{Const, Port}
 use Rattle.lid_net_channels.specs.declared.reads.Read.{Read}
-use Rattle.lid_net_channels.specs.Pieces.{read_by, reads_in}
+use Rattle.lid_net_channels.specs.Pieces.{read_at, reads_in}
 use Rattle.lid_net_channels.specs.Bits.{IsBitOf, Carries, CarryAll, bits_from}
 use Rattle.lid_base.proofs.Places.{get_past}
 
@@ -39,11 +39,11 @@ carry_append channels (r ∷ rs) ss [] es h k = absurd h
 carry_append channels (r ∷ rs) ss (b ∷ bs) es h k = (h.0, carry_append channels rs ss bs es h.1 k)
 
 -- the ports of one channel
-carry_ports : (channels : List Channel) (chan : ℕ) (c : Channel) → slice_get channels chan ≡ Some c → (before ports : List ℕ) → c.ports ≡ before ++ ports → CarryAll channels (map (read_by c) ports) (from_each (Port chan) (length before) (length ports))
+carry_ports : (channels : List Channel) (chan : ℕ) (c : Channel) → slice_get channels chan ≡ Some c → (before ports : List ℕ) → c.ports ≡ before ++ ports → CarryAll channels (map (read_at c) ports) (from_each (Port chan) (length before) (length ports))
 carry_ports channels chan c here before [] whole = tt
 carry_ports channels chan c here before (p ∷ ports) whole = (
   record { c = c; here = here; from = refl; to = refl; port = ap (λ (xs : List ℕ). slice_get xs (length before)) whole ∙ get_past before ports p },
-  subst (λ (n : ℕ). CarryAll channels (map (read_by c) ports) (from_each (Port chan) n (length ports))) (length-append before (p ∷ []))
+  subst (λ (n : ℕ). CarryAll channels (map (read_at c) ports) (from_each (Port chan) n (length ports))) (length-append before (p ∷ []))
       (carry_ports channels chan c here (before ++ p ∷ []) ports (whole ∙ sym (append_assoc before (p ∷ []) ports))),
 )
 

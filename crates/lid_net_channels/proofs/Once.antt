@@ -8,12 +8,12 @@ use Rattle.lid_base.specs.Lists.{Among}
 use Rattle.lid_base.proofs.Lists.{all_among}
 use Rattle.lid_system.specs.declared.Channel.{Channel}
 use Rattle.lid_net_channels.specs.declared.reads.Read.{Read}
-use Rattle.lid_net_channels.specs.Reads.{IsBefore, AreAscending}
-use Rattle.lid_net_channels.specs.Pieces.{read_by, reads_in, is_beside, IsPieceAfter, IsNextPiece, AreCut}
+use Rattle.lid_net_channels.specs.Reads.{IsReadBefore, AreAscending}
+use Rattle.lid_net_channels.specs.Pieces.{read_at, reads_in, is_beside, IsPieceAfter, IsNextPiece, AreCut}
 use Rattle.lid_net_channels.specs.Cutting.{with_port, is_between, placed_read, grown, cut_back}
 
 -- no two reads stand before each other
-not_both : (a b : Read) → IsBefore a b → IsBefore b a → ⊥
+not_both : (a b : Read) → IsReadBefore a b → IsReadBefore b a → ⊥
 not_both a b (inl l) (inl m) = omega arith
 not_both a b (inl l) (inr m) = let e = m.0 in omega arith
 not_both a b (inr l) (inl m) = let e = l.0 in omega arith
@@ -38,17 +38,17 @@ same_reads (x ∷ xs) (y ∷ ys) a b alike = joined (first ((alike x).0 (inl ref
     first : Among x (y ∷ ys) → Among y (x ∷ xs) → x ≡ y
     first (inl e) there = e
     first (inr l) (inl e) = sym e
-    first (inr l) (inr m) = absurd (not_both x y (all_among (IsBefore x) xs y a.0 m) (all_among (IsBefore y) ys x b.0 l))
+    first (inr l) (inr m) = absurd (not_both x y (all_among (IsReadBefore x) xs y a.0 m) (all_among (IsReadBefore y) ys x b.0 l))
 
     alike_after : x ≡ y → AreAlike xs ys
     alike_after is r = (λ here. forth here ((alike r).0 (inr here)), λ there. back there ((alike r).1 (inr there)))
       where
         forth : Among r xs → Among r (y ∷ ys) → Among r ys
-        forth here (inl e) = let before : IsBefore x x = subst (IsBefore x) (e ∙ sym is) (all_among (IsBefore x) xs r a.0 here) in absurd (not_both x x before before)
+        forth here (inl e) = let before : IsReadBefore x x = subst (IsReadBefore x) (e ∙ sym is) (all_among (IsReadBefore x) xs r a.0 here) in absurd (not_both x x before before)
         forth here (inr l) = l
 
         back : Among r ys → Among r (x ∷ xs) → Among r xs
-        back there (inl e) = let before : IsBefore y y = subst (IsBefore y) (e ∙ is) (all_among (IsBefore y) ys r b.0 there) in absurd (not_both y y before before)
+        back there (inl e) = let before : IsReadBefore y y = subst (IsReadBefore y) (e ∙ is) (all_among (IsReadBefore y) ys r b.0 there) in absurd (not_both y y before before)
         back there (inr l) = l
 
     joined : x ≡ y → (x ≡ y → xs ≡ ys) → x ∷ xs ≡ y ∷ ys
@@ -100,7 +100,7 @@ grows f t k q (p ∷ qs) before rs is few next =
 -- what channels carry, the last first of both
 abbrev carried_back : List Channel → List Read
 carried_back [] = []
-carried_back (c ∷ before) = map (read_by c) (reverse c.ports) ++ carried_back before
+carried_back (c ∷ before) = map (read_at c) (reverse c.ports) ++ carried_back before
 
 cut_once : (cs : List Channel) → AreCut cs → cs ≡ cut_back (carried_back cs)
 cut_once [] cut = refl
@@ -109,7 +109,7 @@ cut_once (c ∷ before) cut = by (reverse c.ports) refl (cut_once before cut.3)
     turned : (qs : List ℕ) → reverse c.ports ≡ qs → c ≡ chan c.from c.to c.piece qs
     turned qs is = ap (λ (ports : List ℕ). record { from = c.from; to = c.to; piece = c.piece; ports = ports }) (sym (reverse-reverse c.ports) ∙ ap reverse is)
 
-    by : (qs : List ℕ) → reverse c.ports ≡ qs → before ≡ cut_back (carried_back before) → c ∷ before ≡ cut_back (map (read_by c) qs ++ carried_back before)
+    by : (qs : List ℕ) → reverse c.ports ≡ qs → before ≡ cut_back (carried_back before) → c ∷ before ≡ cut_back (map (read_at c) qs ++ carried_back before)
     by [] is rest = let none : length c.ports ≡ 0 = sym (length-reverse c.ports) ∙ ap length is in let some = cut.0 in absurd (omega arith)
     by (q ∷ qs) is rest =
         let same = turned (q ∷ qs) is in
@@ -120,7 +120,7 @@ cut_once (c ∷ before) cut = by (reverse c.ports) refl (cut_once before cut.3)
 
 carried_append : (xs ys : List Channel) → carried_back (xs ++ ys) ≡ carried_back xs ++ carried_back ys
 carried_append [] ys = refl
-carried_append (x ∷ xs) ys = ap (λ (rs : List Read). map (read_by x) (reverse x.ports) ++ rs) (carried_append xs ys) ∙ sym (append_assoc (map (read_by x) (reverse x.ports)) (carried_back xs) (carried_back ys))
+carried_append (x ∷ xs) ys = ap (λ (rs : List Read). map (read_at x) (reverse x.ports) ++ rs) (carried_append xs ys) ∙ sym (append_assoc (map (read_at x) (reverse x.ports)) (carried_back xs) (carried_back ys))
 
 map_turned : (f : ℕ → Read) (xs : List ℕ) → reverse (map f xs) ≡ map f (reverse xs)
 map_turned f [] = refl
@@ -136,8 +136,8 @@ carried_turned [] = refl
 carried_turned (c ∷ cs) =
     ap carried_back (reverse-append (c ∷ []) cs)
     ∙ carried_append (reverse cs) (c ∷ [])
-    ∙ ap (λ (rs : List Read). rs ++ (map (read_by c) (reverse c.ports) ++ [])) (carried_turned cs)
-    ∙ ap (λ (rs : List Read). reverse (flat_map reads_in cs) ++ rs) (append-nil (map (read_by c) (reverse c.ports)) ∙ sym (map_turned (read_by c) c.ports))
+    ∙ ap (λ (rs : List Read). rs ++ (map (read_at c) (reverse c.ports) ++ [])) (carried_turned cs)
+    ∙ ap (λ (rs : List Read). reverse (flat_map reads_in cs) ++ rs) (append-nil (map (read_at c) (reverse c.ports)) ∙ sym (map_turned (read_at c) c.ports))
     ∙ sym (reverse-append (reads_in c) (flat_map reads_in cs))
 
 -- channels that are cut and carry the same are the same

@@ -10,7 +10,7 @@ use Rattle.std.proofs.lemmas.Bool.{cases_lt}
 use Rattle.lid_base.specs.Lists.{Among}
 use Rattle.lid_base.proofs.Lists.{all_among, among_at}
 use Rattle.lid_net_channels.specs.declared.reads.Read.{Read}
-use Rattle.lid_net_channels.specs.Reads.{IsBefore, AreAscending}
+use Rattle.lid_net_channels.specs.Reads.{IsReadBefore, AreAscending}
 
 -- the order of reads, as it is derived
 abbrev pub read_cmp : Read → Read → Ordering
@@ -23,18 +23,18 @@ less m n h = grind (arith, h)
 alike : (m n : ℕ) → nat_cmp m n ≡ Equal → m ≡ n
 alike m n h = grind (arith, h)
 
-pub before : (a b : Read) → read_cmp a b ≡ Less → IsBefore a b
+pub before : (a b : Read) → read_cmp a b ≡ Less → IsReadBefore a b
 before a b h = by_from (nat_cmp a.from b.from) refl h
   where
-    by_port : (o : Ordering) → nat_cmp a.port b.port ≡ o → a.from ≡ b.from → a.to ≡ b.to → o ≡ Less → IsBefore a b
+    by_port : (o : Ordering) → nat_cmp a.port b.port ≡ o → a.from ≡ b.from → a.to ≡ b.to → o ≡ Less → IsReadBefore a b
     by_port o e from to l = inr (from, inr (to, less a.port b.port (e ∙ l)))
 
-    by_to : (o : Ordering) → nat_cmp a.to b.to ≡ o → a.from ≡ b.from → ordering_then o (nat_cmp a.port b.port) ≡ Less → IsBefore a b
+    by_to : (o : Ordering) → nat_cmp a.to b.to ≡ o → a.from ≡ b.from → ordering_then o (nat_cmp a.port b.port) ≡ Less → IsReadBefore a b
     by_to Less e from l = inr (from, inl (less a.to b.to e))
     by_to Equal e from l = by_port (nat_cmp a.port b.port) refl from (alike a.to b.to e) l
     by_to Greater e from l = absurd (let f : Greater ≡ Less = l in cc)
 
-    by_from : (o : Ordering) → nat_cmp a.from b.from ≡ o → ordering_then o (ordering_then (nat_cmp a.to b.to) (nat_cmp a.port b.port)) ≡ Less → IsBefore a b
+    by_from : (o : Ordering) → nat_cmp a.from b.from ≡ o → ordering_then o (ordering_then (nat_cmp a.to b.to) (nat_cmp a.port b.port)) ≡ Less → IsReadBefore a b
     by_from Less e l = inl (less a.from b.from e)
     by_from Equal e l = by_to (nat_cmp a.to b.to) refl (alike a.from b.from e) l
     by_from Greater e l = absurd (let f : Greater ≡ Less = l in cc)
@@ -63,7 +63,7 @@ unfolding IsStrictlySortedBy
 ascend [] h = tt
 ascend (r ∷ rs) h = (all rs h.0, ascend rs h.1)
   where
-    all : (xs : List Read) → AllByRecursion (λ y. read_cmp r y ≡ Less) xs → AllByRecursion (IsBefore r) xs
+    all : (xs : List Read) → AllByRecursion (λ y. read_cmp r y ≡ Less) xs → AllByRecursion (IsReadBefore r) xs
     all [] a = tt
     all (x ∷ xs) a = (before r x a.0, all xs a.1)
 
@@ -119,7 +119,7 @@ level : (m n : ℕ) → m ≡ n → nat_cmp m n ≡ Equal
 level m n h = grind (arith, nat_tests, h)
 
 -- what comes before is less
-lesser : (a b : Read) → IsBefore a b → read_cmp a b ≡ Less
+lesser : (a b : Read) → IsReadBefore a b → read_cmp a b ≡ Less
 lesser a b (inl h) = ap (λ (o : Ordering). ordering_then o (ordering_then (nat_cmp a.to b.to) (nat_cmp a.port b.port))) (below a.from b.from h)
 lesser a b (inr (from, inl h)) =
     ap (λ (o : Ordering). ordering_then o (ordering_then (nat_cmp a.to b.to) (nat_cmp a.port b.port))) (level a.from b.from from)
@@ -149,7 +149,7 @@ mono a b x h = by (read_cmp b x) refl
 later : (rs : List Read) (i j : ℕ) (d : Read) → AreAscending rs → i < j → j < length rs → read_cmp (get_or rs i d) (get_or rs j d) ≡ Less
 later [] i j d h less in_range = absurd (omega arith)
 later (r ∷ rs) zero zero d h less in_range = absurd (omega arith)
-later (r ∷ rs) zero (suc j) d h less in_range = lesser r (get_or rs j d) (all_among (IsBefore r) rs (get_or rs j d) h.0 (among_at rs j d (omega arith)))
+later (r ∷ rs) zero (suc j) d h less in_range = lesser r (get_or rs j d) (all_among (IsReadBefore r) rs (get_or rs j d) h.0 (among_at rs j d (omega arith)))
 later (r ∷ rs) (suc i) zero d h less in_range = absurd (omega arith)
 later (r ∷ rs) (suc i) (suc j) d h less in_range = later rs i j d h.1 (omega arith) (omega arith)
 

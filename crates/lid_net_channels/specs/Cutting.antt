@@ -4,8 +4,8 @@ use Rattle.lid_system.specs.declared.Channel.{Channel}
 use Rattle.lid_net_channels.specs.declared.reads.Read.{Read}
 
 -- a channel for the first port of a piece
-abbrev pub begun : Read → ℕ → Channel
-begun r piece = record { from = r.from; to = r.to; piece = piece; ports = r.port ∷ [] }
+abbrev pub new_channel : Read → ℕ → Channel
+new_channel r piece = record { from = r.from; to = r.to; piece = piece; ports = r.port ∷ [] }
 
 abbrev pub with_port : Channel → Read → Channel
 with_port c r = record { from = c.from; to = c.to; piece = c.piece; ports = c.ports ++ r.port ∷ [] }
@@ -26,7 +26,7 @@ extended r (c ∷ before) = with_port c r ∷ before
 
 abbrev pub placed_read : Read → List Channel → Option ℕ → List Channel
 placed_read r channels None = extended r channels
-placed_read r channels (Some piece) = begun r piece ∷ channels
+placed_read r channels (Some piece) = new_channel r piece ∷ channels
 
 -- the channels with one read more, the last first
 abbrev pub grown : Read → List Channel → List Channel

@@ -4,11 +4,11 @@ use Rattle.lid_system.specs.declared.Channel.{Channel}
 use Rattle.lid_net_channels.specs.declared.reads.Read.{Read}
 
 -- what the node to which a channel leads reads by it
-abbrev pub read_by : Channel → ℕ → Read
-read_by c port = record { from = c.from; to = c.to; port = port }
+abbrev pub read_at : Channel → ℕ → Read
+read_at c port = record { from = c.from; to = c.to; port = port }
 
 abbrev pub reads_in : Channel → List Read
-reads_in c = map (read_by c) c.ports
+reads_in c = map (read_at c) c.ports
 
 -- whether two channels join the same nodes
 abbrev pub is_beside : Channel → Channel → Bool

@@ -5,7 +5,7 @@ ghost use Rattle.lid_system.specs.declared.Channel.{Channel};
 ghost use Rattle.lid_net_channels.specs.declared.reads.Read.{Read};
 ghost use Rattle.lid_net_channels.specs.declared.fault.NetFault.TheVariants.{TooManyChannels, Memory};
 ghost use Rattle.lid_net_channels.specs.Pieces.{AreChannelsOf};
-ghost use Rattle.lid_net_channels.specs.Cutting.{begun, with_port, extended, piece_for, grown, cut_back, last_width, joins, ArePieced};
+ghost use Rattle.lid_net_channels.specs.Cutting.{new_channel, with_port, extended, piece_for, grown, cut_back, last_width, joins, ArePieced};
 
 use crate::fault::NetFault;
 use crate::reads::Read;
@@ -151,7 +151,7 @@ fn extend_last(channels: &mut Vec<Channel>, read: Read) -> Result<(), AllocError
 
 /// A channel for the first port of a piece.
 fn begin(alloc: Global, read: Read, piece: u32) -> Result<Channel, AllocError>
-    ensures { IfOk result (λ channel. channel ≡ begun read piece) }
+    ensures { IfOk result (λ channel. channel ≡ new_channel read piece) }
 {
     let ports = vec![in alloc; read.port]?;
     Ok(Channel {

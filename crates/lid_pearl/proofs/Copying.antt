@@ -7,7 +7,7 @@ use Rattle.lid_design.specs.declared.FlatCover.{FlatCover}
 use Rattle.lid_design.specs.Flat.{latch_input, IsRow, ReadEarlier}
 use Rattle.lid_strict_engine.specs.declared.program.Program.{Program}
 use Rattle.lid_strict_engine.specs.Programs.{program_covers, IsReadyProgram}
-use Rattle.lid_strict_engine.specs.Rows.{AreRightAt, after}
+use Rattle.lid_strict_engine.specs.Rows.{AreRightAt, known_after}
 use Rattle.lid_pearl.specs.Inside.{held, ArePearlFields}
 
 module _ (nets : ℕ) (ins outs : List ℕ) (latches : List FlatLatch) (early late early' late' : Program) (state bits : List Bool) (ready : IsReadyProgram early') (ready' : IsReadyProgram late') (same : early'.nets ≡ early.nets) (same' : late'.nets ≡ late.nets) (is : program_covers early' ≡ program_covers early) (is' : program_covers late' ≡ program_covers late) where
@@ -24,16 +24,16 @@ module _ (nets : ℕ) (ins outs : List ℕ) (latches : List FlatLatch) (early la
       taken_below = kept.ordered.taken_below;
       early_reads = subst (ReadEarlier (held latches)) (sym is) kept.ordered.early_reads;
       late_reads =
-          subst (λ (cs : List FlatCover). ReadEarlier (ins ++ after (held latches) cs) (program_covers late')) (sym is)
-          (subst (ReadEarlier (ins ++ after (held latches) (program_covers early))) (sym is') kept.ordered.late_reads);
-      outs_early = subst (λ (cs : List FlatCover). AllByRecursion (λ k. Among k (after (held latches) cs)) outs) (sym is) kept.ordered.outs_early;
+          subst (λ (cs : List FlatCover). ReadEarlier (ins ++ known_after (held latches) cs) (program_covers late')) (sym is)
+          (subst (ReadEarlier (ins ++ known_after (held latches) (program_covers early))) (sym is') kept.ordered.late_reads);
+      outs_early = subst (λ (cs : List FlatCover). AllByRecursion (λ k. Among k (known_after (held latches) cs)) outs) (sym is) kept.ordered.outs_early;
       taken_known =
-          subst (λ (cs : List FlatCover). AllByRecursion (λ k. Among k (after (ins ++ after (held latches) cs) (program_covers late'))) (map latch_input latches)) (sym is)
-          (subst (λ (cs : List FlatCover). AllByRecursion (λ k. Among k (after (ins ++ after (held latches) (program_covers early)) cs)) (map latch_input latches)) (sym is') kept.ordered.taken_known);
+          subst (λ (cs : List FlatCover). AllByRecursion (λ k. Among k (known_after (ins ++ known_after (held latches) cs) (program_covers late'))) (map latch_input latches)) (sym is)
+          (subst (λ (cs : List FlatCover). AllByRecursion (λ k. Among k (known_after (ins ++ known_after (held latches) (program_covers early)) cs)) (map latch_input latches)) (sym is') kept.ordered.taken_known);
     };
     state_size = kept.state_size;
     size = kept.size;
-    settled = subst (λ (cs : List FlatCover). (f : ℕ → Bool) → IsRow cs f → map f (held latches) ≡ state → AreRightAt f (after (held latches) cs) bits) (sym is) kept.settled;
+    settled = subst (λ (cs : List FlatCover). (f : ℕ → Bool) → IsRow cs f → map f (held latches) ≡ state → AreRightAt f (known_after (held latches) cs) bits) (sym is) kept.settled;
   }
 
   module _ (nets' : ℕ) (ins' outs' : List ℕ) (latches' : List FlatLatch) (state' bits' : List Bool) (n : nets' ≡ nets) (i : ins' ≡ ins) (o : outs' ≡ outs) (l : latches' ≡ latches) (s : state' ≡ state) (b : bits' ≡ bits) where

@@ -12,13 +12,13 @@ use Rattle.lid_design.specs.Network.{Driver, from_input, from_latch, from_cover}
 use Rattle.lid_design.specs.Feeds.{read_now}
 use Rattle.lid_design.specs.Flat.{flat_drivers, latch_out, ReadEarlier, IsFlat}
 use Rattle.lid_design.proofs.Parts.{input_drives, latch_drives, cover_drives}
-use Rattle.lid_strict_engine.specs.Rows.{bit_at, after}
+use Rattle.lid_strict_engine.specs.Rows.{bit_at, known_after}
 use Rattle.lid_strict_engine.proofs.Settling.{take_at, after_keeps, after_has, earlier_at, no_latch, latch_at}
 use Rattle.lid_pearl.specs.Inside.{held, is_picked, IsFromInput, AreKnownMarks}
 use Rattle.lid_base.proofs.Alls.{all_weaker, all_true}
 
 -- what is known was so before, or is the output of a cover
-pub after_cases : (known : List ℕ) (cs : List FlatCover) (k : ℕ) → Among k (after known cs) → Among k known ⊎ ((c : FlatCover) × Among c cs × (k ≡ c.out))
+pub after_cases : (known : List ℕ) (cs : List FlatCover) (k : ℕ) → Among k (known_after known cs) → Among k known ⊎ ((c : FlatCover) × Among c cs × (k ≡ c.out))
 after_cases known [] k among = inl among
 after_cases known (d ∷ cs) k among = by (after_cases (d.out ∷ known) cs k among)
   where
@@ -28,12 +28,12 @@ after_cases known (d ∷ cs) k among = by (after_cases (d.out ∷ known) cs k am
     by (inr found) = inr (found.0, inr found.1, found.2)
 
 -- each of some first covers reads what is known once they are run
-reads_known : (known : List ℕ) (cs : List FlatCover) (i : ℕ) → ReadEarlier known cs → (c : FlatCover) → Among c (take i cs) → AllByRecursion (λ k. Among k (after known (take i cs))) c.ins
+reads_known : (known : List ℕ) (cs : List FlatCover) (i : ℕ) → ReadEarlier known cs → (c : FlatCover) → Among c (take i cs) → AllByRecursion (λ k. Among k (known_after known (take i cs))) c.ins
 reads_known known cs zero earlier c among = absurd among
 reads_known known [] (suc i) earlier c among = absurd among
 reads_known known (d ∷ cs) (suc i) earlier c (inl same) =
-    subst (λ (c : FlatCover). AllByRecursion (λ k. Among k (after (d.out ∷ known) (take i cs))) c.ins) (sym same)
-    (all_weaker (λ k. Among k known) (λ k. Among k (after (d.out ∷ known) (take i cs))) d.ins (λ k a. after_keeps (d.out ∷ known) (take i cs) k (inr a)) earlier.0)
+    subst (λ (c : FlatCover). AllByRecursion (λ k. Among k (known_after (d.out ∷ known) (take i cs))) c.ins) (sym same)
+    (all_weaker (λ k. Among k known) (λ k. Among k (known_after (d.out ∷ known) (take i cs))) d.ins (λ k a. after_keeps (d.out ∷ known) (take i cs) k (inr a)) earlier.0)
 reads_known known (d ∷ cs) (suc i) earlier c (inr among) = reads_known (d.out ∷ known) cs i earlier.1 c among
 
 list_all_same : (m n : ℕ → Bool) (ks : List ℕ) → AllByRecursion (λ k. m k ≡ n k) ks → list_all m ks ≡ list_all n ks
@@ -129,7 +129,7 @@ module _ (f : Flat) (flat : IsFlat f) where
     d_among : Among d f.covers
     d_among = get_among f.covers i d at
 
-    right : (k : ℕ) → Among k (after base (take i f.covers)) → k ≡ d.out → bit_at marks k ≡ v
+    right : (k : ℕ) → Among k (known_after base (take i f.covers)) → k ≡ d.out → bit_at marks k ≡ v
     right k among same = by (after_cases base (take i f.covers) k among)
       where
         of_base : Among k f.ins ⊎ Among k (held f.latches) → bit_at marks k ≡ v
@@ -144,15 +144,15 @@ module _ (f : Flat) (flat : IsFlat f) where
             ∙ so_far.covers_marked c found.1
             ∙ ap (list_all (bit_at marks)) (same_reads c d (among_take f.covers i c found.1) d_among (sym found.2 ∙ same))
 
-    unchanged : (k : ℕ) → Among k (after base (take i f.covers)) → bit_at new k ≡ bit_at marks k
+    unchanged : (k : ℕ) → Among k (known_after base (take i f.covers)) → bit_at new k ≡ bit_at marks k
     unchanged k among = by (eqb_tells k d.out)
       where
         by : ((eqb k d.out ≡ true) × (k ≡ d.out)) ⊎ ((eqb k d.out ≡ false) × (k ≢ d.out)) → bit_at new k ≡ bit_at marks k
         by (inl e) = ap (bit_at new) e.1 ∙ get_or-set_same marks d.out v false room ∙ sym (right k among e.1)
         by (inr e) = get_or-set_other marks d.out k v false e.1
 
-    all_unchanged : (ks : List ℕ) → AllByRecursion (λ k. Among k (after base (take i f.covers))) ks → list_all (bit_at new) ks ≡ list_all (bit_at marks) ks
-    all_unchanged ks all = list_all_same (bit_at new) (bit_at marks) ks (all_weaker (λ k. Among k (after base (take i f.covers))) (λ k. bit_at new k ≡ bit_at marks k) ks unchanged all)
+    all_unchanged : (ks : List ℕ) → AllByRecursion (λ k. Among k (known_after base (take i f.covers))) ks → list_all (bit_at new) ks ≡ list_all (bit_at marks) ks
+    all_unchanged ks all = list_all_same (bit_at new) (bit_at marks) ks (all_weaker (λ k. Among k (known_after base (take i f.covers))) (λ k. bit_at new k ≡ bit_at marks k) ks unchanged all)
 
     pub marked_next : AreKnownMarks f (take (i + 1) f.covers) (bit_at new)
     marked_next = record {
@@ -231,14 +231,14 @@ late_reads m (c ∷ cs) known known' earlier wider early = by (m c.out) refl (la
     by true e next = next (c.out ∷ known) known' earlier.1 (λ k among. elim among [ inl same ↦ subst (λ (x : ℕ). Among x known') (sym same) (early c (inl refl) e) | inr among ↦ wider k among ]) (λ d among is. early d (inr among) is)
 
 abbrev EarlyKnown : (ℕ → Bool) → List FlatCover → Type 0
-EarlyKnown m cs = (known known' : List ℕ) → ((k : ℕ) → Among k known → m k ≡ true → Among k known') → (k : ℕ) → Among k (after known cs) → m k ≡ true → Among k (after known' (early_of m cs))
+EarlyKnown m cs = (known known' : List ℕ) → ((k : ℕ) → Among k known → m k ≡ true → Among k known') → (k : ℕ) → Among k (known_after known cs) → m k ≡ true → Among k (known_after known' (early_of m cs))
 
 -- what is marked and known is known in a state
-pub early_known : (m : ℕ → Bool) (cs : List FlatCover) (known known' : List ℕ) → ((k : ℕ) → Among k known → m k ≡ true → Among k known') → (k : ℕ) → Among k (after known cs) → m k ≡ true → Among k (after known' (early_of m cs))
+pub early_known : (m : ℕ → Bool) (cs : List FlatCover) (known known' : List ℕ) → ((k : ℕ) → Among k known → m k ≡ true → Among k known') → (k : ℕ) → Among k (known_after known cs) → m k ≡ true → Among k (known_after known' (early_of m cs))
 early_known m [] known known' marked k among is = marked k among is
 early_known m (c ∷ cs) known known' marked k among is = by (m c.out) refl (early_known m cs)
   where
-    by : (b : Bool) → m c.out ≡ b → EarlyKnown m cs → Among k (after known' (cond b (c ∷ early_of m cs) (early_of m cs)))
+    by : (b : Bool) → m c.out ≡ b → EarlyKnown m cs → Among k (known_after known' (cond b (c ∷ early_of m cs) (early_of m cs)))
     by true e next = next (c.out ∷ known) (c.out ∷ known') (λ k among is. elim among [ inl same ↦ inl same | inr among ↦ inr (marked k among is) ]) k among is
     by false e next = next (c.out ∷ known) known' more k among is
       where
@@ -247,19 +247,19 @@ early_known m (c ∷ cs) known known' marked k among is = by (m c.out) refl (ear
         more k (inr among) is = marked k among is
 
 abbrev LateKnown : (ℕ → Bool) → List FlatCover → Type 0
-LateKnown m cs = (known known' : List ℕ) → ((k : ℕ) → Among k known → Among k known') → ((c : FlatCover) → Among c cs → m c.out ≡ true → Among c.out known') → (k : ℕ) → Among k (after known cs) → Among k (after known' (late_of m cs))
+LateKnown m cs = (known known' : List ℕ) → ((k : ℕ) → Among k known → Among k known') → ((c : FlatCover) → Among c cs → m c.out ≡ true → Among c.out known') → (k : ℕ) → Among k (known_after known cs) → Among k (known_after known' (late_of m cs))
 
 -- all that is known is so once the late covers are run
-pub late_known : (m : ℕ → Bool) (cs : List FlatCover) (known known' : List ℕ) → ((k : ℕ) → Among k known → Among k known') → ((c : FlatCover) → Among c cs → m c.out ≡ true → Among c.out known') → (k : ℕ) → Among k (after known cs) → Among k (after known' (late_of m cs))
+pub late_known : (m : ℕ → Bool) (cs : List FlatCover) (known known' : List ℕ) → ((k : ℕ) → Among k known → Among k known') → ((c : FlatCover) → Among c cs → m c.out ≡ true → Among c.out known') → (k : ℕ) → Among k (known_after known cs) → Among k (known_after known' (late_of m cs))
 late_known m [] known known' wider early k among = wider k among
 late_known m (c ∷ cs) known known' wider early k among = by (m c.out) refl (late_known m cs)
   where
-    by : (b : Bool) → m c.out ≡ b → LateKnown m cs → Among k (after known' (cond (not b) (c ∷ late_of m cs) (late_of m cs)))
+    by : (b : Bool) → m c.out ≡ b → LateKnown m cs → Among k (known_after known' (cond (not b) (c ∷ late_of m cs) (late_of m cs)))
     by false e next = next (c.out ∷ known) (c.out ∷ known') (λ k among. elim among [ inl same ↦ inl same | inr among ↦ inr (wider k among) ]) (λ d among is. inr (early d (inr among) is)) k among
     by true e next = next (c.out ∷ known) known' (λ k among. elim among [ inl same ↦ subst (λ (x : ℕ). Among x known') (sym same) (early c (inl refl) e) | inr among ↦ wider k among ]) (λ d among is. early d (inr among) is) k among
 
 -- an input leads to what is known and not marked
-pub fed_unless_marked : (f : Flat) (m : ℕ → Bool) (cs : List FlatCover) (known : List ℕ) → ReadEarlier known cs → Exact m cs → ((c : FlatCover) → Among c cs → Among c f.covers) → ((k : ℕ) → Among k known → m k ≡ false → IsFromInput f k) → (k : ℕ) → Among k (after known cs) → m k ≡ false → IsFromInput f k
+pub fed_unless_marked : (f : Flat) (m : ℕ → Bool) (cs : List FlatCover) (known : List ℕ) → ReadEarlier known cs → Exact m cs → ((c : FlatCover) → Among c cs → Among c f.covers) → ((k : ℕ) → Among k known → m k ≡ false → IsFromInput f k) → (k : ℕ) → Among k (known_after known cs) → m k ≡ false → IsFromInput f k
 fed_unless_marked f m [] known earlier exact within fed k among is = fed k among is
 fed_unless_marked f m (c ∷ cs) known earlier exact within fed k among is = fed_unless_marked f m cs (c.out ∷ known) earlier.1 (λ d among. exact d (inr among)) (λ d among. within d (inr among)) more k among is
   where

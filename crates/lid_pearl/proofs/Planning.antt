@@ -9,7 +9,7 @@ use Rattle.lid_design.specs.declared.FlatCover.{FlatCover}
 use Rattle.lid_design.specs.Flat.{latch_out, latch_input, ReadEarlier, IsFlat}
 use Rattle.lid_strict_engine.specs.declared.program.Program.{Program}
 use Rattle.lid_strict_engine.specs.Programs.{program_covers, IsReadyProgram}
-use Rattle.lid_strict_engine.specs.Rows.{after}
+use Rattle.lid_strict_engine.specs.Rows.{known_after}
 use Rattle.lid_pearl.specs.Pearls.{IsSplit}
 use Rattle.lid_pearl.specs.Inside.{held, IsOrdered, AreKnownMarks}
 use Rattle.lid_pearl.proofs.Marking.{input_not_held, early_of, late_of}
@@ -56,15 +56,15 @@ module _ (f : Flat) (flat : IsFlat f) where
       taken_below = taken_below;
       early_reads = subst (ReadEarlier (held f.latches)) (sym early_is) (early_earlier f flat m marks);
       late_reads =
-          subst (λ (es : List FlatCover). ReadEarlier (f.ins ++ after (held f.latches) es) (program_covers late)) (sym early_is)
-          (subst (ReadEarlier (f.ins ++ after (held f.latches) (early_of m f.covers))) (sym late_is) (late_earlier f flat m marks));
+          subst (λ (es : List FlatCover). ReadEarlier (f.ins ++ known_after (held f.latches) es) (program_covers late)) (sym early_is)
+          (subst (ReadEarlier (f.ins ++ known_after (held f.latches) (early_of m f.covers))) (sym late_is) (late_earlier f flat m marks));
       outs_early =
-          subst (λ (es : List FlatCover). AllByRecursion (λ k. Among k (after (held f.latches) es)) f.outs) (sym early_is)
-          (all_from_among (λ k. Among k (after (held f.latches) (early_of m f.covers))) f.outs (out_early f flat m marks));
+          subst (λ (es : List FlatCover). AllByRecursion (λ k. Among k (known_after (held f.latches) es)) f.outs) (sym early_is)
+          (all_from_among (λ k. Among k (known_after (held f.latches) (early_of m f.covers))) f.outs (out_early f flat m marks));
       taken_known =
-          subst (λ (es : List FlatCover). AllByRecursion (λ k. Among k (after (f.ins ++ after (held f.latches) es) (program_covers late))) (map latch_input f.latches)) (sym early_is)
-          (subst (λ (ls : List FlatCover). AllByRecursion (λ k. Among k (after (f.ins ++ after (held f.latches) (early_of m f.covers)) ls)) (map latch_input f.latches)) (sym late_is)
-          (all_from_among (λ k. Among k (after (f.ins ++ after (held f.latches) (early_of m f.covers)) (late_of m f.covers))) (map latch_input f.latches) (λ k among. net_late f flat m marks k (taken_small k among))));
+          subst (λ (es : List FlatCover). AllByRecursion (λ k. Among k (known_after (f.ins ++ known_after (held f.latches) es) (program_covers late))) (map latch_input f.latches)) (sym early_is)
+          (subst (λ (ls : List FlatCover). AllByRecursion (λ k. Among k (known_after (f.ins ++ known_after (held f.latches) (early_of m f.covers)) ls)) (map latch_input f.latches)) (sym late_is)
+          (all_from_among (λ k. Among k (known_after (f.ins ++ known_after (held f.latches) (early_of m f.covers)) (late_of m f.covers))) (map latch_input f.latches) (λ k among. net_late f flat m marks k (taken_small k among))));
     }
 
     pub plan_split : IsSplit f.covers (program_covers early) (program_covers late)

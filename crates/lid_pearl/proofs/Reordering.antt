@@ -11,7 +11,7 @@ use Rattle.lid_design.specs.declared.FlatCover.{FlatCover}
 use Rattle.lid_design.specs.Network.{Driver, from_input, from_latch, from_cover, Table, bit_of, IsStrict}
 use Rattle.lid_design.specs.Feeds.{EdgesLead}
 use Rattle.lid_design.specs.Flat.{inputs_at, latch_at, cover_at, flat_drivers, latch_out, IsFlatCover, ReadEarlier, IsFlat}
-use Rattle.lid_strict_engine.specs.Rows.{after}
+use Rattle.lid_strict_engine.specs.Rows.{known_after}
 use Rattle.lid_pearl.specs.Pearls.{IsSplit, IsReordered}
 use Rattle.lid_pearl.specs.Inside.{held, is_picked, IsFromInput, AreKnownMarks}
 use Rattle.lid_strict_engine.proofs.Settling.{after_keeps, after_has}
@@ -172,7 +172,7 @@ among_held [] latch among = absurd among
 among_held (l ∷ latches) latch (inl same) = inl (ap latch_out same)
 among_held (l ∷ latches) latch (inr among) = inr (among_held latches latch among)
 
-append_earlier : (known : List ℕ) (xs ys : List FlatCover) → ReadEarlier known xs → ReadEarlier (after known xs) ys → ReadEarlier known (xs ++ ys)
+append_earlier : (known : List ℕ) (xs ys : List FlatCover) → ReadEarlier known xs → ReadEarlier (known_after known xs) ys → ReadEarlier known (xs ++ ys)
 append_earlier known [] ys first second = second
 append_earlier known (x ∷ xs) ys first second = (first.0, append_earlier (x.out ∷ known) xs ys first.1 second)
 
@@ -186,25 +186,25 @@ module _ (f : Flat) (flat : IsFlat f) (m : ℕ → Bool) (marks : AreKnownMarks 
   abbrev late : List FlatCover
   late = late_of m f.covers
 
-  net_known : (k : ℕ) → k < f.nets → Among k (after known f.covers)
+  net_known : (k : ℕ) → k < f.nets → Among k (known_after known f.covers)
   unfolding flat_drivers
   net_known k h = by (some_item (flat_drivers f k) (flat.driven k h))
     where
-      of_cell : (s : Driver ℕ) → Among s (flat_map (latch_at k) f.latches) ⊎ Among s (flat_map (cover_at k) f.covers) → Among k (after known f.covers)
+      of_cell : (s : Driver ℕ) → Among s (flat_map (latch_at k) f.latches) ⊎ Among s (flat_map (cover_at k) f.covers) → Among k (known_after known f.covers)
       of_cell s (inl here) =
           let found = flat_among {A = FlatLatch} {B = Driver ℕ} (latch_at k) s f.latches here in
           let same = eqb-true found.0.out k ((if_among (found.0.out == k) s (from_latch found.0.init found.0.input) found.2).0) in
-          subst (λ (k : ℕ). Among k (after known f.covers)) same (after_keeps known f.covers found.0.out (among_right found.0.out f.ins (held f.latches) (among_held f.latches found.0 found.1)))
+          subst (λ (k : ℕ). Among k (known_after known f.covers)) same (after_keeps known f.covers found.0.out (among_right found.0.out f.ins (held f.latches) (among_held f.latches found.0 found.1)))
       of_cell s (inr here) =
           let found = flat_among {A = FlatCover} {B = Driver ℕ} (cover_at k) s f.covers here in
           let same = eqb-true found.0.out k ((if_among (found.0.out == k) s (from_cover found.0.cover found.0.ins) found.2).0) in
-          subst (λ (k : ℕ). Among k (after known f.covers)) same (after_has known f.covers found.0 found.1)
+          subst (λ (k : ℕ). Among k (known_after known f.covers)) same (after_has known f.covers found.0 found.1)
 
-      of : (s : Driver ℕ) → Among s (inputs_at k 0 f.ins) ⊎ Among s (flat_map (latch_at k) f.latches ++ flat_map (cover_at k) f.covers) → Among k (after known f.covers)
+      of : (s : Driver ℕ) → Among s (inputs_at k 0 f.ins) ⊎ Among s (flat_map (latch_at k) f.latches ++ flat_map (cover_at k) f.covers) → Among k (known_after known f.covers)
       of s (inl input) = after_keeps known f.covers k (among_left k f.ins (held f.latches) (inputs_among k 0 f.ins s input))
       of s (inr cell) = of_cell s (among_append s (flat_map (latch_at k) f.latches) (flat_map (cover_at k) f.covers) cell)
 
-      by : ((s : Driver ℕ) × Among s (inputs_at k 0 f.ins ++ (flat_map (latch_at k) f.latches ++ flat_map (cover_at k) f.covers))) → Among k (after known f.covers)
+      by : ((s : Driver ℕ) × Among s (inputs_at k 0 f.ins ++ (flat_map (latch_at k) f.latches ++ flat_map (cover_at k) f.covers))) → Among k (known_after known f.covers)
       by found = of found.0 (among_append found.0 (inputs_at k 0 f.ins) (flat_map (latch_at k) f.latches ++ flat_map (cover_at k) f.covers) found.1)
 
   marked_held : (k : ℕ) → Among k known → m k ≡ true → Among k (held f.latches)
@@ -217,17 +217,17 @@ module _ (f : Flat) (flat : IsFlat f) (m : ℕ → Bool) (marks : AreKnownMarks 
   pub early_earlier : ReadEarlier (held f.latches) early
   early_earlier = early_reads m f.covers known (held f.latches) flat.earlier marks.covers_marked marked_held
 
-  early_has : (c : FlatCover) → Among c f.covers → m c.out ≡ true → Among c.out (f.ins ++ after (held f.latches) early)
-  early_has c among is = among_right c.out f.ins (after (held f.latches) early) (early_known m f.covers known (held f.latches) marked_held c.out (after_has known f.covers c among) is)
+  early_has : (c : FlatCover) → Among c f.covers → m c.out ≡ true → Among c.out (f.ins ++ known_after (held f.latches) early)
+  early_has c among is = among_right c.out f.ins (known_after (held f.latches) early) (early_known m f.covers known (held f.latches) marked_held c.out (after_has known f.covers c among) is)
 
-  wider : (k : ℕ) → Among k known → Among k (f.ins ++ after (held f.latches) early)
+  wider : (k : ℕ) → Among k known → Among k (f.ins ++ known_after (held f.latches) early)
   wider k among = elim (among_append k f.ins (held f.latches) among) [
-    | inl input ↦ among_left k f.ins (after (held f.latches) early) input
-    | inr latch ↦ among_right k f.ins (after (held f.latches) early) (after_keeps (held f.latches) early k latch)
+    | inl input ↦ among_left k f.ins (known_after (held f.latches) early) input
+    | inr latch ↦ among_right k f.ins (known_after (held f.latches) early) (after_keeps (held f.latches) early k latch)
   ]
 
-  pub late_earlier : ReadEarlier (f.ins ++ after (held f.latches) early) late
-  late_earlier = late_reads m f.covers known (f.ins ++ after (held f.latches) early) flat.earlier wider early_has
+  pub late_earlier : ReadEarlier (f.ins ++ known_after (held f.latches) early) late
+  late_earlier = late_reads m f.covers known (f.ins ++ known_after (held f.latches) early) flat.earlier wider early_has
 
   fed : (k : ℕ) → Among k known → m k ≡ false → IsFromInput f k
   fed k among is = by (among_append k f.ins (held f.latches) among)
@@ -236,21 +236,21 @@ module _ (f : Flat) (flat : IsFlat f) (m : ℕ → Bool) (marks : AreKnownMarks 
       by (inl input) = (0, k, input, refl)
       by (inr latch) = absurd (let e : true ≡ false = sym (marks.latches k latch) ∙ is in cc)
 
-  pub out_early : (k : ℕ) → Among k f.outs → Among k (after (held f.latches) early)
+  pub out_early : (k : ℕ) → Among k f.outs → Among k (known_after (held f.latches) early)
   out_early k among = by (m k) refl
     where
-      here : Among k (after known f.covers)
+      here : Among k (known_after known f.covers)
       here = net_known k (all_among (λ k. k < f.nets) f.outs k flat.below.outs among)
 
-      by : (b : Bool) → m k ≡ b → Among k (after (held f.latches) early)
+      by : (b : Bool) → m k ≡ b → Among k (known_after (held f.latches) early)
       by true e = early_known m f.covers known (held f.latches) marked_held k here e
       by false e = let found = fed_unless_marked f m f.covers known flat.earlier marks.covers_marked (λ c among. among) fed k here e in absurd (flat.apart found.0 found.1 k found.2 among found.3)
 
-  pub net_late : (k : ℕ) → k < f.nets → Among k (after (f.ins ++ after (held f.latches) early) late)
-  net_late k h = late_known m f.covers known (f.ins ++ after (held f.latches) early) wider early_has k (net_known k h)
+  pub net_late : (k : ℕ) → k < f.nets → Among k (known_after (f.ins ++ known_after (held f.latches) early) late)
+  net_late k h = late_known m f.covers known (f.ins ++ known_after (held f.latches) early) wider early_has k (net_known k h)
 
   pub all_earlier : ReadEarlier known (early ++ late)
   all_earlier =
       append_earlier known early late
       (early_reads m f.covers known known flat.earlier marks.covers_marked (λ k among is. among))
-      (late_reads m f.covers known (after known early) flat.earlier (λ k among. after_keeps known early k among) (λ c among is. after_has known early c (among_filter (is_picked m true) c f.covers among is)))
+      (late_reads m f.covers known (known_after known early) flat.earlier (λ k among. after_keeps known early k among) (λ c among is. after_has known early c (among_filter (is_picked m true) c f.covers among is)))

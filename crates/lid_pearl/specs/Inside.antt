@@ -11,7 +11,7 @@ use Rattle.lid_design.specs.Feeds.{EdgesLead}
 use Rattle.lid_design.specs.Flat.{flat_drivers, latch_out, latch_input, ReadEarlier, IsRow}
 use Rattle.lid_strict_engine.specs.declared.program.Program.{Program}
 use Rattle.lid_strict_engine.specs.Programs.{program_covers, IsReadyProgram}
-use Rattle.lid_strict_engine.specs.Rows.{AreRightAt, after}
+use Rattle.lid_strict_engine.specs.Rows.{AreRightAt, known_after}
 
 -- the nets that the latches give
 abbrev pub held : List FlatLatch → List ℕ
@@ -19,10 +19,10 @@ held latches = map latch_out latches
 
 -- what is known in a state, and what is known once the inputs are
 abbrev pub early_nets : List FlatLatch → Program → List ℕ
-early_nets latches early = after (held latches) (program_covers early)
+early_nets latches early = known_after (held latches) (program_covers early)
 
 abbrev pub late_nets : List ℕ → List FlatLatch → Program → Program → List ℕ
-late_nets ins latches early late = after (ins ++ early_nets latches early) (program_covers late)
+late_nets ins latches early late = known_after (ins ++ early_nets latches early) (program_covers late)
 
 -- the nets of a pearl have bits, and each cover reads what is known when it is run
 pub record IsOrdered (nets : ℕ) (ins outs : List ℕ) (latches : List FlatLatch) (early late : Program) : Type 0 where
@@ -35,9 +35,9 @@ pub record IsOrdered (nets : ℕ) (ins outs : List ℕ) (latches : List FlatLatc
   pub held_below : AllByRecursion (λ k. k < nets + 1) (held latches)
   pub taken_below : AllByRecursion (λ k. k < nets + 1) (map latch_input latches)
   pub early_reads : ReadEarlier (held latches) (program_covers early)
-  pub late_reads : ReadEarlier (ins ++ after (held latches) (program_covers early)) (program_covers late)
-  pub outs_early : AllByRecursion (λ k. Among k (after (held latches) (program_covers early))) outs
-  pub taken_known : AllByRecursion (λ k. Among k (after (ins ++ after (held latches) (program_covers early)) (program_covers late))) (map latch_input latches)
+  pub late_reads : ReadEarlier (ins ++ known_after (held latches) (program_covers early)) (program_covers late)
+  pub outs_early : AllByRecursion (λ k. Among k (known_after (held latches) (program_covers early))) outs
+  pub taken_known : AllByRecursion (λ k. Among k (known_after (ins ++ known_after (held latches) (program_covers early)) (program_covers late))) (map latch_input latches)
 
 -- bits that are right at early nets in each row that has the latches' bits
 abbrev pub AreSettled : List FlatLatch → Program → List Bool → List Bool → Type 0

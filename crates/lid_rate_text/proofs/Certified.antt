@@ -7,7 +7,7 @@ use Rattle.lid_cert.specs.declared.cert.Part.{Part}
 use Rattle.lid_cert.specs.declared.cert.Cert.{Cert}
 use Rattle.lid_cert.specs.Certificates.{ascends, AreLists, Certifies, IsInRange}
 use Rattle.lid_cert_text.specs.Written.{cert_text}
-use Rattle.lid_cert_text.specs.Printed.{IsSmall, IsPartFull, room}
+use Rattle.lid_cert_text.specs.Printed.{IsSmall, IsPartFull, bytes_needed}
 use Rattle.lid_cert_text.proofs.PrintedLengths.{room_is_small}
 use Rattle.lid_rate.specs.Rates.{IsShort}
 
@@ -32,7 +32,7 @@ module _ (g : Graph) (cert : Cert) (certifies : Certifies g cert) where
         omega (arith, among, all, few)
 
     -- 11 bytes and 139 for each transition are less than 16 MiB
-    pub fits : length (cert_text cert) ≤ 11 + sum_by room cert.parts → length (cert_text cert) ≤ 16777216
+    pub fits : length (cert_text cert) ≤ 11 + sum_by bytes_needed cert.parts → length (cert_text cert) ≤ 16777216
     fits printed =
         let rooms = room_is_small cert some_nodes short.walks in
         let all = short.nodes in

@@ -14,7 +14,7 @@ use Rattle.lid_shell.specs.declared.desk.Desk.{Desk}
 use Rattle.lid_shell.specs.declared.part.Role.{Role}
 use Rattle.lid_shell.specs.declared.part.Role.TheVariants.{Source, Shell, Mover, Sink}
 use Rattle.lid_shell.specs.Parts.{IsRole}
-use Rattle.lid_shell.specs.Actors.{row_of}
+use Rattle.lid_shell.specs.Actors.{row_number}
 use Rattle.lid_shell.specs.Boards.{Agrees}
 use Rattle.lid_shell.specs.Steps.{Works}
 use Rattle.lid_shell.specs.Inside.{ActorsGoByRules, IsPassing, HasPassed, tokens_taken, AreMade, IsBusy, IsGoing, IsToMake, HasMade, HasTokensReady, IsAtEnd, HasClosed, HasFinished, further, closed}
@@ -140,7 +140,7 @@ gone m v q b a ends stands f agrees streams =
     (record { actor = f.actor; agrees = agrees_finished m v (further q) ends b f.tells agrees; streams = streams })
 
 -- the part of an actor after a take, and after a put
-pub taking : (m : Setup) (v : ℕ) (q : Progress) (d : Desk) (part : Role) (i : ℕ) → IsBusy m v (further q) d → IsRole m v q.fired (row_of m v q) part → q.position ≡ takes_from (length (ins_of (plan m) v)) (length (outs_of (plan m) v)) + i → i < length (ins_of (plan m) v)
+pub taking : (m : Setup) (v : ℕ) (q : Progress) (d : Desk) (part : Role) (i : ℕ) → IsBusy m v (further q) d → IsRole m v q.fired (row_number m v q) part → q.position ≡ takes_from (length (ins_of (plan m) v)) (length (outs_of (plan m) v)) + i → i < length (ins_of (plan m) v)
     → IsGoing m v (further q) (record { desk = d; part = part })
 taking m v q d part i busy is here within =
     record { busy = busy; is = subst (λ (n : ℕ). IsRole m v q.fired n part) (alike (puts_from (length (ins_of (plan m) v)) (length (outs_of (plan m) v))) q.fired q.position (q.position + 1) (λ h. omega arith) (λ h. omega arith)) is }

@@ -15,7 +15,7 @@ use Rattle.lid_shell.specs.declared.desk.Next.{Next}
 use Rattle.lid_shell.specs.declared.desk.Next.TheVariants.{LookIn, LookOut, Take, Put, Fire}
 use Rattle.lid_shell.specs.declared.part.Role.{Role}
 use Rattle.lid_shell.specs.Parts.{IsRole}
-use Rattle.lid_shell.specs.Actors.{IsDesk, IsActor, IsBegun, row_of}
+use Rattle.lid_shell.specs.Actors.{IsDesk, IsActor, IsBegun, row_number}
 use Rattle.lid_shell.specs.Steps.{Works, MakesStep, IsExact, found_in}
 use Rattle.lid_shell.specs.Inside.{act_in, IsNext, IsAbout, IsBusyAtBoard, HasLooked, HasMadeNext, looked, closed}
 use Rattle.lid_walk_machine.proofs.Counts.{alike}
@@ -112,7 +112,7 @@ stepped m v q answer act last a ends stands below is_act last_is told works =
     }
 
 -- an actor that has looked
-settled : (m : Setup) (v : ℕ) (q : Progress) (d : Desk) (part : Role) (ends : Ends) (stands : (ℕ → List ℕ) → Type 0) (found : Bool) → IsBusyAtBoard m v (looked found q) d ends stands → IsRole m v q.fired (row_of m v q) part
+settled : (m : Setup) (v : ℕ) (q : Progress) (d : Desk) (part : Role) (ends : Ends) (stands : (ℕ → List ℕ) → Type 0) (found : Bool) → IsBusyAtBoard m v (looked found q) d ends stands → IsRole m v q.fired (row_number m v q) part
     → q.position < takes_from (length (ins_of (plan m) v)) (length (outs_of (plan m) v)) → Works m v (looked found q) (record { desk = d; part = part }) ends stands
 settled m v q d part ends stands true w is early =
     record {
@@ -148,20 +148,20 @@ looked_out j true q = refl
 looked_out j false q = refl
 
 stepped_look : (m : Setup) (v : ℕ) (q : Progress) (next : Next) (answer : Answer) (d : Desk) (part : Role) (ends : Ends) (stands : (ℕ → List ℕ) → Type 0) → looked (found_in answer) q ≡ moves (act_in next) (found_in answer) false q
-    → q.position < takes_from (length (ins_of (plan m) v)) (length (outs_of (plan m) v)) → q.fired < cap (plan m) v → IsAbout m v q next → IsRole m v q.fired (row_of m v q) part
+    → q.position < takes_from (length (ins_of (plan m) v)) (length (outs_of (plan m) v)) → q.fired < cap (plan m) v → IsAbout m v q next → IsRole m v q.fired (row_number m v q) part
     → HasLooked m v q next answer d ends stands → MakesStep m v q answer (record { desk = d; part = part }) ends stands
 stepped_look m v q next answer d part ends stands goes early below about is done =
     stepped m v q answer (act_in next) false (record { desk = d; part = part }) ends stands below (act_is (length (ins_of (plan m) v)) (length (outs_of (plan m) v)) q.position next about) (ne_eqb _ _ (λ same. omega arith)) done.answers
     (subst (λ (p : Progress). Works m v p (record { desk = d; part = part }) ends stands) goes (settled m v q d part ends stands (found_in answer) done.work is early))
 
-pub stepped_in : (m : Setup) (v : ℕ) (q : Progress) (i : ℕ) (answer : Answer) (d : Desk) (part : Role) (ends : Ends) (stands : (ℕ → List ℕ) → Type 0) → q.fired < cap (plan m) v → IsAbout m v q (LookIn i) → IsRole m v q.fired (row_of m v q) part
+pub stepped_in : (m : Setup) (v : ℕ) (q : Progress) (i : ℕ) (answer : Answer) (d : Desk) (part : Role) (ends : Ends) (stands : (ℕ → List ℕ) → Type 0) → q.fired < cap (plan m) v → IsAbout m v q (LookIn i) → IsRole m v q.fired (row_number m v q) part
     → HasLooked m v q (LookIn i) answer d ends stands → MakesStep m v q answer (record { desk = d; part = part }) ends stands
 stepped_in m v q i answer d part ends stands below about is done =
     let here : q.position ≡ i = about.0 in
     let within : i < length (ins_of (plan m) v) = about.1 in
     stepped_look m v q (LookIn i) answer d part ends stands (looked_in i (found_in answer) q) (omega arith) below about is done
 
-pub stepped_out : (m : Setup) (v : ℕ) (q : Progress) (j : ℕ) (answer : Answer) (d : Desk) (part : Role) (ends : Ends) (stands : (ℕ → List ℕ) → Type 0) → q.fired < cap (plan m) v → IsAbout m v q (LookOut j) → IsRole m v q.fired (row_of m v q) part
+pub stepped_out : (m : Setup) (v : ℕ) (q : Progress) (j : ℕ) (answer : Answer) (d : Desk) (part : Role) (ends : Ends) (stands : (ℕ → List ℕ) → Type 0) → q.fired < cap (plan m) v → IsAbout m v q (LookOut j) → IsRole m v q.fired (row_number m v q) part
     → HasLooked m v q (LookOut j) answer d ends stands → MakesStep m v q answer (record { desk = d; part = part }) ends stands
 stepped_out m v q j answer d part ends stands below about is done =
     let here : q.position ≡ length (ins_of (plan m) v) + j = about.0 in

@@ -10,8 +10,8 @@ use Rattle.lid_shell.specs.Parts.{IsRole}
 
 -- the row whose bits the latches of a shell have: that of the firing to come, and from the first put of a firing
 -- on the next one
-abbrev pub row_of : Setup → ℕ → Progress → ℕ
-row_of m v q = q.fired + (if nat_lt (puts_from (length (ins_of (plan m) v)) (length (outs_of (plan m) v))) q.position then 1 else 0)
+abbrev pub row_number : Setup → ℕ → Progress → ℕ
+row_number m v q = q.fired + (if nat_lt (puts_from (length (ins_of (plan m) v)) (length (outs_of (plan m) v))) q.position then 1 else 0)
 
 -- the desk of actor v of a setup: its stations and cap, how far it is, and the tokens of a firing that has begun
 pub record IsDesk (m : Setup) (v : ℕ) (q : Progress) (d : Desk) : Type 0 where
@@ -41,4 +41,4 @@ pub record IsActor (m : Setup) (v : ℕ) (q : Progress) (a : Actor) : Type 0 whe
   pub there : v < actors_of (plan m)
   pub far : IsBegun m v q
   pub at : IsDesk m v q a.desk
-  pub is : IsRole m v q.fired (row_of m v q) a.part
+  pub is : IsRole m v q.fired (row_number m v q) a.part

@@ -27,7 +27,7 @@ use Rattle.lid_shell.specs.declared.turn.TurnEnd.TheVariants as end
 use Rattle.lid_shell.specs.declared.part.Given.{Given}
 use Rattle.lid_shell.specs.declared.part.Role.{Role}
 use Rattle.lid_shell.specs.Parts.{IsRole}
-use Rattle.lid_shell.specs.Actors.{IsDesk, IsActor, row_of}
+use Rattle.lid_shell.specs.Actors.{IsDesk, IsActor, row_number}
 use Rattle.lid_shell.specs.Boards.{Agrees, ServesAll}
 use Rattle.lid_shell.specs.Steps.{Works, found_in}
 
@@ -186,7 +186,7 @@ pub record CanPut (j : ℕ) (d : Desk) (ends : Ends) (stands : (ℕ → List ℕ
 -- an actor with its part
 pub record IsGoing (m : Setup) (v : ℕ) (q : Progress) (a : Actor) : Type 0 where
   pub busy : IsBusy m v q a.desk
-  pub is : IsRole m v q.fired (row_of m v q) a.part
+  pub is : IsRole m v q.fired (row_number m v q) a.part
 
 -- all tokens of a firing are taken, and none is made
 pub record IsToMake (m : Setup) (v : ℕ) (q : Progress) (a : Actor) : Type 0 where
@@ -264,7 +264,7 @@ pub record CanGoAt (next : Next) (a : Actor) (ends : Ends) (stands : (ℕ → Li
   pub number : ℕ
   pub far : Progress
   pub work : IsBusyAtBoard setup number far a.desk ends stands
-  pub is : IsRole setup number far.fired (row_of setup number far) a.part
+  pub is : IsRole setup number far.fired (row_number setup number far) a.part
   pub about : IsAbout setup number far next
 
 -- it has made the step
@@ -275,7 +275,7 @@ pub record HasMadeNext (m : Setup) (v : ℕ) (q : Progress) (next : Next) (answe
 abbrev pub MakesNext : Next → Actor → Ends → ((ℕ → List ℕ) → Type 0) → Answer → Actor → Ends → ((ℕ → List ℕ) → Type 0) → Type 0
 MakesNext next old ends stands answer new ends_new stands_new =
     (m : Setup) (v : ℕ) (q : Progress)
-    → IsBusyAtBoard m v q old.desk ends stands → IsRole m v q.fired (row_of m v q) old.part → IsAbout m v q next
+    → IsBusyAtBoard m v q old.desk ends stands → IsRole m v q.fired (row_number m v q) old.part → IsAbout m v q next
     → HasMadeNext m v q next answer new ends_new stands_new
 
 -- how a turn ends in which this is answered; it goes on where the actor is within a firing

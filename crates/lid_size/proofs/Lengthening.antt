@@ -61,22 +61,6 @@ module _ (g : Graph) (n : ℕ) where
     short = omega arith;
   }
 
-  pub way_read : (caps : List ℕ) (ways : List Way) (v : ℕ) (way : Way) → AreWays g n caps ways → v < length ways → way ≡ get_or ways v way → IsWayTo g n caps v way
-  way_read caps ways v way are h is = subst (IsWayTo g n caps v) (get_or_default ways v (empty_way 0) way h ∙ sym is) (are.each v h)
-
-  pub ways_written : (caps : List ℕ) (ways : List Way) (v : ℕ) (way : Way) → AreWays g n caps ways → IsWayTo g n caps v way → AreWays g n caps (set ways v way)
-  ways_written caps ways v way are is = record {
-    count = length-set ways v way ∙ are.count;
-    each = λ u h. by_place u (let l = length-set ways v way in omega arith) (cases_eq u v);
-  }
-    where
-      by_place : (u : ℕ) → u < length ways → (u ≡ v) ⊎ (u ≢ v) → IsWayTo g n caps u (get_or (set ways v way) u (empty_way 0))
-      by_place u h (inl same) =
-          let here : v < length ways = omega arith in
-          subst (λ (m : ℕ). IsWayTo g n caps m (get_or (set ways v way) m (empty_way 0))) (sym same)
-          (subst (IsWayTo g n caps v) (sym (get_or-set_same ways v way (empty_way 0) here)) is)
-      by_place u h (inr other) = subst (IsWayTo g n caps u) (sym (get_or-set_other ways v u way (empty_way 0) other)) (are.each u h)
-
   pub way_begun : (caps : List ℕ) (v : ℕ) → v < g.nodes → IsWayTo g n caps v (empty_way v)
   way_begun caps v h = record {
     walk = [];

@@ -85,19 +85,3 @@ found_less s p c a b x ratio found can present less keeps lower is_ratio is =
     let most : IsMost s p c a b x = record { within = can.enough; keeps = keeps; next = λ room. lower } in
     let all : IsSlackAndNext (links_of s) p c (record { added = x; next = Some ratio }) = record { added = is_slack s p c a b present x can most; next = (less, is_ratio) } in
     subst (IsSlackAndNext (links_of s) p c) (sym is) all
-
--- certificates say the same
-pub told_found : (l : Links) (p : Placement) (c : ℕ) (slack : Slack) (next : Option Ratio) → IsTold l p c slack → IsNextRatio l p c slack next → IsSlackAndNext l p c (record { added = slack.added; next = next })
-told_found l p c slack next told is = record { added = told.added; next = by_end slack.against told.against is }
-  where
-    by_next : (walk : List ℕ) → slack.added < room p c → (o : Option Ratio) → MatchOption o ⊥ (λ ratio. IsRatio (longer_marking l p c (slack.added + 1)) (producer l c) ratio.p ratio.q) → HasNextRatio l p c slack.added o
-    by_next walk less None none = absurd none
-    by_next walk less (Some ratio) h = (less, h)
-
-    by_none : slack.added ≡ room p c → (o : Option Ratio) → IsNone o → HasNextRatio l p c slack.added o
-    by_none full None none = full
-    by_none full (Some ratio) none = absurd (true≢false none)
-
-    by_end : (o : Option (List ℕ)) → IsEnd l p c slack.added o → MatchOption o (IsNone next) (λ walk. MatchOption next ⊥ (λ ratio. IsRatio (longer_marking l p c (slack.added + 1)) (producer l c) ratio.p ratio.q)) → HasNextRatio l p c slack.added next
-    by_end None full none = by_none full next none
-    by_end (Some walk) h told = by_next walk h.0 next told

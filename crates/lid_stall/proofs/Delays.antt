@@ -20,7 +20,7 @@ use Rattle.lid_clock_laws.proofs.Had.{bound_had}
 use Rattle.lid_clock.specs.Lives.{Life, IsLife, IsBelow, fired_after, sink}
 use Rattle.lid_stall_text.specs.declared.stalls.Stall.{Stall}
 use Rattle.lid_stall_text.specs.Holds.{holds_source, holds_sink, stalled_by, Ascend}
-use Rattle.lid_stall.specs.Places.{due_of, place_after, Divides}
+use Rattle.lid_stall.specs.Places.{due_of, next_place, Divides}
 use Rattle.lid_stall.specs.Runs.{IsHeldBy, holds_one, stalled_after, IsOverBy}
 use Rattle.lid_stall.proofs.Walking.{source_due, sink_due, divides_on, counted_moves}
 
@@ -186,7 +186,7 @@ module _ (l : Life) (rules : IsLife l) (stalls : List Stall) (by : IsHeldBy l st
     where
       on : HasPassed l stalls k → HasPassed l stalls (suc k)
       on has = record {
-        place = place_after (slice_get stalls has.place) has.place k;
+        place = next_place (slice_get stalls has.place) has.place k;
         at = divides_on stalls has.place k ascends has.at;
         few = omega (arith, has.few, counts_on l rules stalls by has.place k ascends has.at, counted_moves (slice_get stalls has.place) has.place k);
       }

@@ -7,7 +7,7 @@ use Rattle.lid_clock.specs.Ran.{Ran}
 use Rattle.lid_stall_text.specs.declared.stalls.Stall.{Stall}
 use Rattle.lid_stall_text.specs.Holds.{holds_sink, Ascend}
 use Rattle.lid_stall.specs.declared.held.Held.{Held}
-use Rattle.lid_stall.specs.Places.{due_of, place_after, Divides}
+use Rattle.lid_stall.specs.Places.{due_of, next_place, Divides}
 use Rattle.lid_stall.specs.Runs.{IsHeldBy, RanHeld}
 use Rattle.lid_stall.proofs.Walking.{source_due, sink_due, divides_on, counted_moves}
 use Rattle.lid_stall.proofs.Delays.{counts_on}
@@ -22,7 +22,7 @@ holds_due l stalls place k by ascends at v =
 
 -- and the cycle takes the run on
 pub cycled : (l : Life) (k g : ℕ) (h : Held) → RanHeld l k g h → IsBelow l k → (stream : ClockStream) → Ran l (suc k) g stream → (next counted : ℕ)
-    → next ≡ place_after (slice_get h.stalls h.next) h.next h.made
+    → next ≡ next_place (slice_get h.stalls h.next) h.next h.made
     → counted ≡ cond ((due_of (slice_get h.stalls h.next) h.made).source || (due_of (slice_get h.stalls h.next) h.made).sink) 1 0
     → RanHeld l (suc k) g (record { stream = stream; stalls = h.stalls; next = next; made = h.made + 1; stalled = h.stalled + counted })
 cycled l k g h held below stream ran next counted moves counts = record {
@@ -36,8 +36,8 @@ cycled l k g h held below stream ran next counted moves counts = record {
   needed = λ j less. by_order j less (cases_lt j k);
 }
   where
-    moved : next ≡ place_after (slice_get h.stalls h.next) h.next k
-    moved = moves ∙ ap (λ (n : ℕ). place_after (slice_get h.stalls h.next) h.next n) held.made_is
+    moved : next ≡ next_place (slice_get h.stalls h.next) h.next k
+    moved = moves ∙ ap (λ (n : ℕ). next_place (slice_get h.stalls h.next) h.next n) held.made_is
 
     counted_is : counted ≡ cond ((due_of (slice_get h.stalls h.next) k).source || (due_of (slice_get h.stalls h.next) k).sink) 1 0
     counted_is = counts ∙ ap (λ (n : ℕ). cond ((due_of (slice_get h.stalls h.next) n).source || (due_of (slice_get h.stalls h.next) n).sink) 1 0) held.made_is

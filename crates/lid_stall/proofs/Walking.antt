@@ -6,7 +6,7 @@ use Rattle.std.proofs.lemmas.List.Folds.{list_any_at, list_any_none}
 use Rattle.std.proofs.lemmas.Option.{slice_get_cases, slice_get-get_or, slice_get_within}
 use Rattle.lid_stall_text.specs.declared.stalls.Stall.{Stall}
 use Rattle.lid_stall_text.specs.Holds.{holds_source, holds_sink, Ascend}
-use Rattle.lid_stall.specs.Places.{nobody, due_of, place_after, Divides}
+use Rattle.lid_stall.specs.Places.{nobody, due_of, next_place, Divides}
 
 -- a stall of another cycle does not count
 other_cycle : (b : Bool) (m n : ℕ) → (m ≡ n → ⊥) → ((m == n) && b) ≡ false
@@ -123,7 +123,7 @@ module _ (stalls : List Stall) (place k : ℕ) (ascends : Ascend stalls) (at : D
           let cycle : stall.cycle ≡ k = ap (λ (x : Stall). x.cycle) one ∙ same in
           omega arith
 
-  pub divides_on : Divides stalls (place_after (slice_get stalls place) place k) (suc k)
+  pub divides_on : Divides stalls (next_place (slice_get stalls place) place k) (suc k)
   divides_on = by_due (slice_get stalls place) refl
     where
       by_cycle : (due : Stall) → slice_get stalls place ≡ Some due → (b : Bool) → (due.cycle == k) ≡ b → Divides stalls (cond b (place + 1) place) (suc k)
@@ -136,12 +136,12 @@ module _ (stalls : List Stall) (place k : ℕ) (ascends : Ascend stalls) (at : D
               let one : due ≡ other = cc in
               true≢false (sym (eq-eqb due.cycle k (ap (λ (x : Stall). x.cycle) one ∙ same)) ∙ e)
 
-      by_due : (due : Option Stall) → slice_get stalls place ≡ due → Divides stalls (place_after due place k) (suc k)
+      by_due : (due : Option Stall) → slice_get stalls place ≡ due → Divides stalls (next_place due place k) (suc k)
       by_due None here = still (λ due there same. let both : None ≡ Some due = sym here ∙ there in absurd cc)
       by_due (Some due) here = by_cycle due here (due.cycle == k) refl
 
 -- a cycle counts as stalled only where the place moves on
-pub counted_moves : (due : Option Stall) (place k : ℕ) → place + cond ((due_of due k).source || (due_of due k).sink) 1 0 ≤ place_after due place k
+pub counted_moves : (due : Option Stall) (place k : ℕ) → place + cond ((due_of due k).source || (due_of due k).sink) 1 0 ≤ next_place due place k
 counted_moves None place k = omega arith
 counted_moves (Some stall) place k = by (stall.cycle == k)
   where

@@ -12,9 +12,9 @@ due_of None cycle = nobody cycle
 due_of (Some stall) cycle = if stall.cycle == cycle then stall else nobody cycle
 
 -- the place after it
-abbrev pub place_after : Option Stall → ℕ → ℕ → ℕ
-place_after None place cycle = place
-place_after (Some stall) place cycle = if stall.cycle == cycle then place + 1 else place
+abbrev pub next_place : Option Stall → ℕ → ℕ → ℕ
+next_place None place cycle = place
+next_place (Some stall) place cycle = if stall.cycle == cycle then place + 1 else place
 
 -- a place of stalls, where those before it are of cycles before k, and all others of later ones or k itself
 pub record Divides (stalls : List Stall) (place k : ℕ) : Type 0 where

@@ -7,7 +7,7 @@ ghost use Rattle.lid_clock.specs.Lives.{Life, NeedsRow, IsBelow, IsLast, fired_a
 ghost use Rattle.lid_shell_laws.specs.Setups.{IsInputRow};
 ghost use Rattle.lid_clock.specs.Ran.{Ran, lent};
 ghost use Rattle.lid_stall_text.specs.Holds.{Ascend};
-ghost use Rattle.lid_stall.specs.Places.{due_of, place_after};
+ghost use Rattle.lid_stall.specs.Places.{due_of, next_place};
 ghost use Rattle.lid_stall.specs.Runs.{IsHeldBy, IsOverBy, RanHeld, stalled_after};
 
 use lid_base::{Items, Shown};
@@ -43,7 +43,7 @@ fn due(stalls: &[Stall], place: usize, cycle: u64) -> Stall
 
 /// The place of the next stall after a cycle.
 fn after(stalls: &[Stall], place: usize, cycle: u64) -> usize
-    ensures { result ≡ place_after (slice_get stalls.now place) place cycle }
+    ensures { result ≡ next_place (slice_get stalls.now place) place cycle }
 {
     match stalls.get(place) {
         Some(stall) if stall.cycle == cycle => place + 1,

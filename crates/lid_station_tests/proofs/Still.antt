@@ -13,7 +13,7 @@ use Rattle.lid_board.specs.Lending.{IsBack}
 use Rattle.lid_board.specs.Owners.{IsOf, IsOwned, ends_of, identity_of}
 use Rattle.lid_board.specs.Standing.{AreStreamsOf}
 use Rattle.lid_board.specs.Starts.{AreStreamsFor}
-use Rattle.lid_board.specs.Views.{Ends, at, facts, facts_at, held, held_of}
+use Rattle.lid_board.specs.Views.{EndTable, at, facts, facts_at, held, held_of}
 use Rattle.lid_board.proofs.Lent.{come_back}
 use Rattle.lid_board.specs.declared.board.Board.{Board}
 use Rattle.lid_board.specs.declared.hand.Hand.{Hand}
@@ -24,7 +24,7 @@ facts_there None n e = absurd (cc)
 facts_there (Some h) n e = (facts h, refl, same_Some h.passed n e)
 
 -- an end of which a number is told is served
-pub served_here : (ends : Ends) (end n : ℕ) (o : Option ℕ) → o ≡ option_map (λ (h : EndFacts). h.passed) (at ends end) → o ≡ Some n → (f : Facts) × (facts_at ends end ≡ Some f) × (f.passed ≡ n)
+pub served_here : (ends : EndTable) (end n : ℕ) (o : Option ℕ) → o ≡ option_map (λ (h : EndFacts). h.passed) (at ends end) → o ≡ Some n → (f : Facts) × (facts_at ends end ≡ Some f) × (f.passed ≡ n)
 served_here ends end n o told some_n = facts_there (at ends end) n (sym told ∙ some_n)
 
 -- one stream for each station
@@ -41,7 +41,7 @@ begins_same n token stream next short small = record {
       ap (λ (s : List ℕ). slice_get s 0) (get_or-replicate n station stream [] there) ∙ next ∙ ap (λ (k : ℕ). Some k) t_is;
 }
 
-pub stands_same : (plan : Ends) (n : ℕ) (stream : List ℕ) → length plan ≡ 2 * n → AreStreamsOf plan (λ station. get_or (replicate n stream) station []) → AreStreamsOf plan (λ _. stream)
+pub stands_same : (plan : EndTable) (n : ℕ) (stream : List ℕ) → length plan ≡ 2 * n → AreStreamsOf plan (λ station. get_or (replicate n stream) station []) → AreStreamsOf plan (λ _. stream)
 stands_same plan n stream many stands station inside = stands station inside ∙ get_or-replicate n station stream [] (omega arith)
 
 -- the hand that was lent is the one that comes back
@@ -56,7 +56,7 @@ owned_there None f e = absurd (cc)
 owned_there (Some h) f e = refl
 
 -- a change at one end leaves a hand the ends that it owns
-pub owned_kept : (old new : Ends) (end k : ℕ) (step : Facts → Facts) → Changes (facts_at old) end step (facts_at new) → IsOwned old k → IsOwned new k
+pub owned_kept : (old new : EndTable) (end k : ℕ) (step : Facts → Facts) → Changes (facts_at old) end step (facts_at new) → IsOwned old k → IsOwned new k
 owned_kept old new end k step changes owned =
     let known : facts_at old k ≡ Some (facts (held old k)) = ap (option_map facts) owned in
     dite (ℕ_discrete k end)

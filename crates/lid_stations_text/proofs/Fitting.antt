@@ -17,7 +17,7 @@ use Rattle.lid_stations_text.specs.declared.fault.PlaceFault.{PlaceFault}
 use Rattle.lid_stations_text.specs.declared.fault.PlaceFault.TheVariants.{TotalLimit, Memory}
 use Rattle.lid_stations_text.specs.Forms.{relays_of, caps_of}
 use Rattle.lid_stations_text.specs.Faults.{place_where, is_of}
-use Rattle.lid_stations_text.specs.Places.{IsPlaced, IsSoundPlace, IsPlacementOf, words_at, relays_at, caps_at}
+use Rattle.lid_stations_text.specs.Places.{AreFirstLines, IsSoundPlace, IsPlacementOf, words_at, relays_at, caps_at}
 use Rattle.lid_stations_text.specs.Readings.{lines_fault, relays_on, caps_on, placement_of, whole, rows_reading, unless}
 use Rattle.lid_stations_text.proofs.FirstPlaces.{place_in, no_line, line_at}
 use Rattle.lid_stations_text.proofs.Amounts.{sound_lines, caps_in_range}
@@ -42,7 +42,7 @@ module _ (l : Links) (form : Form) (lines : List Line) where
   caps_same c None e = sym (ap (λ (o : Option Line). option_map_or (λ line. caps_of form line.words) o (2 ∷ [])) (no_line (is_of l c) 0 lines e))
   caps_same c (Some i) e = sym (ap (λ (o : Option Line). option_map_or (λ line. caps_of form line.words) o (2 ∷ [])) (line_at (is_of l c) 0 lines i i _ e (omega arith)))
 
-  placed_are : (places : List (Option ℕ)) → IsPlaced l lines places → places ≡ map (λ c. place_where (is_of l c) 0 lines) (from_each (λ c. c) 0 (length l.channels))
+  placed_are : (places : List (Option ℕ)) → AreFirstLines l lines places → places ≡ map (λ c. place_where (is_of l c) 0 lines) (from_each (λ c. c) 0 (length l.channels))
   placed_are places p = same_lists places (map by numbers) (p.long ∙ sym (length-map numbers by ∙ each_length (λ c. c) 0 (length l.channels))) each
     where
       numbers : List ℕ
@@ -58,14 +58,14 @@ module _ (l : Links) (form : Form) (lines : List Line) where
           let read : get_or (map by numbers) k d ≡ by (get_or numbers k 0) = get_or-map by numbers k 0 d (let e = each_length (λ c. c) 0 (length l.channels) in omega arith) in
           get_or_default places k d None h ∙ p.each k inside ∙ ap by (sym number) ∙ sym read
 
-  pub relays_are : (places : List (Option ℕ)) → IsPlaced l lines places → map (relays_at form lines) places ≡ map (relays_on l form lines) (from_each (λ c. c) 0 (length l.channels))
+  pub relays_are : (places : List (Option ℕ)) → AreFirstLines l lines places → map (relays_at form lines) places ≡ map (relays_on l form lines) (from_each (λ c. c) 0 (length l.channels))
   relays_are places p = ap (map (relays_at form lines)) (placed_are places p) ∙ map_through (relays_at form lines) _ (relays_on l form lines) (λ c. relays_same c _ refl) _
 
-  pub caps_are : (places : List (Option ℕ)) → IsPlaced l lines places → flat_map (caps_at form lines) places ≡ flat_map (caps_on l form lines) (from_each (λ c. c) 0 (length l.channels))
+  pub caps_are : (places : List (Option ℕ)) → AreFirstLines l lines places → flat_map (caps_at form lines) places ≡ flat_map (caps_on l form lines) (from_each (λ c. c) 0 (length l.channels))
   caps_are places p = ap (flat_map (caps_at form lines)) (placed_are places p) ∙ flat_map_through (caps_at form lines) _ (caps_on l form lines) (λ c. caps_same c _ refl) _
 
   -- each place is one of a sound line
-  pub sound_places : (places : List (Option ℕ)) → lines_fault l form [] lines ≡ None → IsPlaced l lines places → All (IsSoundPlace form lines) places
+  pub sound_places : (places : List (Option ℕ)) → lines_fault l form [] lines ≡ None → AreFirstLines l lines places → All (IsSoundPlace form lines) places
   sound_places places none p = All-from_get_or (IsSoundPlace form lines) places None each
     where
       at : (c : ℕ) (place : Option ℕ) → place_where (is_of l c) 0 lines ≡ place → IsSoundPlace form lines place
@@ -101,7 +101,7 @@ module _ (form : Form) (lines : List Line) where
       All-append IsCapacity (caps_at form lines place) _ (range_at place (All-head (IsSoundPlace form lines) place places s)) (in_range places (All-tail (IsSoundPlace form lines) place places s))
 
 -- what is made is the placement of the lines
-pub is_read : (l : Links) (form : Form) (lines : List Line) (places : List (Option ℕ)) (p : Placement) → lines_fault l form [] lines ≡ None → IsPlaced l lines places → IsPlacementOf form lines places p → rows_reading l form lines ≡ whole p
+pub is_read : (l : Links) (form : Form) (lines : List Line) (places : List (Option ℕ)) (p : Placement) → lines_fault l form [] lines ≡ None → AreFirstLines l lines places → IsPlacementOf form lines places p → rows_reading l form lines ≡ whole p
 unfolding placement_of
 is_read l form lines places p none placed made =
     let relays = made.relays ∙ relays_are l form lines places placed in
@@ -112,7 +112,7 @@ is_read l form lines places p none placed made =
     ap (λ (f : Option PlaceFault). unless f (whole (placement_of l form lines))) none ∙ ap whole is
 
 -- and fits where its stations are not too many
-pub fits : (s : System) (form : Form) (lines : List Line) (places : List (Option ℕ)) (p : Placement) → lines_fault (links_of s) form [] lines ≡ None → IsPlaced (links_of s) lines places → IsPlacementOf form lines places p → station_count p.relays ≤ 65536 → Fits s p
+pub fits : (s : System) (form : Form) (lines : List Line) (places : List (Option ℕ)) (p : Placement) → lines_fault (links_of s) form [] lines ≡ None → AreFirstLines (links_of s) lines places → IsPlacementOf form lines places p → station_count p.relays ≤ 65536 → Fits s p
 fits s form lines places p none placed made most =
     let sound = sound_places (links_of s) form lines places none placed in
     record {

@@ -11,7 +11,7 @@ use Rattle.lid_stations_text.specs.declared.fault.PlaceFault.TheVariants.{Twice}
 use Rattle.lid_stations_text.specs.Forms.{has_form}
 use Rattle.lid_stations_text.specs.Faults.{first_fault, or_else, channel_of, is_number, is_of, stands_on, place_where, amount_fault, line_fault}
 use Rattle.lid_stations_text.specs.Readings.{lines_fault}
-use Rattle.lid_stations_text.specs.Places.{IsPlaced}
+use Rattle.lid_stations_text.specs.Places.{AreFirstLines}
 use Rattle.lid_stations_text.proofs.FirstPlaces.{place_in, any_from_place, more_failed, more_passed}
 
 third_of_three : (a b c : Bool) (f g h : PlaceFault) → a ≡ true → b ≡ true → c ≡ true → first_fault ((not a, f) ∷ (not b, g) ∷ (c, h) ∷ []) ≡ Some h
@@ -37,7 +37,7 @@ pub is_channel : (l : Links) (words : List (List ℕ)) (c : ℕ) → channel_of 
 is_channel l words c e = let p = place_in _ 0 l.channels c e in (let h = p.within in omega arith)
 
 -- one more line, of a channel that was on none
-pub placed_more : (l : Links) (earlier : List Line) (places : List (Option ℕ)) (line : Line) (c : ℕ) → IsPlaced l earlier places → channel_of l line.words ≡ Some c → get_or places c None ≡ None → IsPlaced l (earlier ++ line ∷ []) (set places c (Some (length earlier)))
+pub placed_more : (l : Links) (earlier : List Line) (places : List (Option ℕ)) (line : Line) (c : ℕ) → AreFirstLines l earlier places → channel_of l line.words ≡ Some c → get_or places c None ≡ None → AreFirstLines l (earlier ++ line ∷ []) (set places c (Some (length earlier)))
 placed_more l earlier places line c p is free = record { long = length-set places c (Some (length earlier)) ∙ p.long; each = each }
   where
     inside : c < length l.channels
@@ -57,12 +57,12 @@ placed_more l earlier places line c p is free = record { long = length-set place
               get_or-set_other places c k (Some (length earlier)) None other ∙ p.each k h ∙ sym (more_failed (is_of l k) 0 earlier line unnamed)
         ]
 
-pub placed_next : (l : Links) (lines : List Line) (i : ℕ) (line : Line) (places : List (Option ℕ)) (c : ℕ) → i < length lines → line ≡ get_or lines i line → IsPlaced l (take i lines) places → channel_of l line.words ≡ Some c → get_or places c None ≡ None → IsPlaced l (take (i + 1) lines) (set places c (Some i))
+pub placed_next : (l : Links) (lines : List Line) (i : ℕ) (line : Line) (places : List (Option ℕ)) (c : ℕ) → i < length lines → line ≡ get_or lines i line → AreFirstLines l (take i lines) places → channel_of l line.words ≡ Some c → get_or places c None ≡ None → AreFirstLines l (take (i + 1) lines) (set places c (Some i))
 placed_next l lines i line places c h at p is free =
     let grown : take i lines ++ line ∷ [] ≡ take (i + 1) lines = ap (λ (x : Line). take i lines ++ x ∷ []) at ∙ sym (take_more lines i line h) in
     let number : length (take i lines) ≡ i = length-take-le i lines (omega arith) in
-    subst (λ (n : ℕ). IsPlaced l (take (i + 1) lines) (set places c (Some n))) number
-    (subst (λ (before : List Line). IsPlaced l before (set places c (Some (length (take i lines))))) grown (placed_more l (take i lines) places line c p is free))
+    subst (λ (n : ℕ). AreFirstLines l (take (i + 1) lines) (set places c (Some n))) number
+    (subst (λ (before : List Line). AreFirstLines l before (set places c (Some (length (take i lines))))) grown (placed_more l (take i lines) places line c p is free))
 
 -- the fault of the lines from one on
 pub from_line : (l : Links) (form : Form) (lines : List Line) (i : ℕ) (line : Line) → i < length lines → line ≡ get_or lines i line → lines_fault l form (take i lines) (drop i lines) ≡ or_else (line_fault l form (take i lines) line) (lines_fault l form (take (i + 1) lines) (drop (i + 1) lines))

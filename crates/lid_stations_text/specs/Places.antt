@@ -9,7 +9,7 @@ use Rattle.lid_stations_text.specs.Forms.{relays_of, caps_of, has_capacities}
 use Rattle.lid_stations_text.specs.Faults.{place_where, is_of}
 
 -- for each channel the place of the first of these lines that names it
-pub record IsPlaced (l : Links) (lines : List Line) (places : List (Option ℕ)) : Type 0 where
+pub record AreFirstLines (l : Links) (lines : List Line) (places : List (Option ℕ)) : Type 0 where
   pub long : length places ≡ length l.channels
   pub each : (c : ℕ) → c < length l.channels → slice_index_or places c None ≡ place_where (is_of l c) 0 lines
 

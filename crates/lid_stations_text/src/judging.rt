@@ -6,7 +6,7 @@ ghost use Rattle.lid_stations.specs.Placements.{links_of};
 ghost use Rattle.lid_stations_text.specs.Forms.{IsForm};
 ghost use Rattle.lid_stations_text.specs.Faults.{channel_of, amount_fault, line_fault};
 ghost use Rattle.lid_stations_text.specs.Readings.{lines_fault};
-ghost use Rattle.lid_stations_text.specs.Places.{IsPlaced};
+ghost use Rattle.lid_stations_text.specs.Places.{AreFirstLines};
 
 use crate::channels::channel_of;
 use crate::fault::PlaceFault;
@@ -48,9 +48,9 @@ fn judge_line(
     requires long { length places.now ≡ length system.now.channels }
     ensures channel { IfOk result (λ c. channel_of (links_of system.now) line.now.words ≡ Some c) }
     ensures free { IfOk result (λ c. slice_index_or places.now c None ≡ None) }
-    ensures ok { IfOk result (λ c. (earlier : _) → IsPlaced (links_of system.now) earlier places.now
+    ensures ok { IfOk result (λ c. (earlier : _) → AreFirstLines (links_of system.now) earlier places.now
         → line_fault (links_of system.now) form earlier line.now ≡ None) }
-    ensures err { IfErr result (λ e. (earlier : _) → IsPlaced (links_of system.now) earlier places.now
+    ensures err { IfErr result (λ e. (earlier : _) → AreFirstLines (links_of system.now) earlier places.now
         → line_fault (links_of system.now) form earlier line.now ≡ Some e) }
 {
     let words = line.words.as_slice();
@@ -78,9 +78,9 @@ fn place_lines(
 ) -> Result<(), PlaceFault>
     requires system { IsWellFormed system.now }
     requires form { IsForm form }
-    requires clear { IsPlaced (links_of system.now) [] places.old }
+    requires clear { AreFirstLines (links_of system.now) [] places.old }
     ensures ok { OnOk result (lines_fault (links_of system.now) form [] lines.now ≡ None) }
-    ensures placed { OnOk result (IsPlaced (links_of system.now) lines.now places.new) }
+    ensures placed { OnOk result (AreFirstLines (links_of system.now) lines.now places.new) }
     ensures err { IfErr result (λ e. lines_fault (links_of system.now) form [] lines.now ≡ Some e) }
 {
     for (i, line) in lines.iter().enumerate() {
@@ -102,7 +102,7 @@ pub(crate) fn lines_by_channel(
     requires system { IsWellFormed system.now }
     requires form { IsForm form }
     ensures ok { OnOk result (lines_fault (links_of system.now) form [] lines.now ≡ None) }
-    ensures placed { IfOk result (λ places. IsPlaced (links_of system.now) lines.now places.items) }
+    ensures placed { IfOk result (λ places. AreFirstLines (links_of system.now) lines.now places.items) }
     ensures err { IfErr result (λ e. (e ≡ PlaceFault.Memory) ⊎ (lines_fault (links_of system.now) form [] lines.now ≡ Some e)) }
 {
     let Ok(mut places) = Vec::from_elem(alloc, None, system.channels.as_slice().len()) else {

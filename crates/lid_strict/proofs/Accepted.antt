@@ -18,7 +18,7 @@ use Rattle.lid_design.proofs.Tables.{has_table, has_one_table}
 use Rattle.lid_check_elab.specs.Elaborations.{map_driver, column_at}
 use Rattle.lid_check_elab.specs.Numbers.{offset_of, start_of}
 use Rattle.lid_check_drivers.specs.Locals.{actual_for}
-use Rattle.lid_check_elab.specs.Templates.{place_in, net_by_place, placed_driver}
+use Rattle.lid_check_elab.specs.Templates.{net_place, net_by_place, placed_driver}
 use Rattle.lid_check_drivers.specs.Judged.{IsJudged}
 use Rattle.lid_check_elab.specs.Scopes.{IsOnlyDriver, IsOuter}
 use Rattle.lid_check_elab.proofs.Located.{Located, located}
@@ -49,7 +49,7 @@ module _ (d : Design) (judged : IsJudged d) where
   around_at (i ∷ up) k leads =
       let body = then_some (number_from d d.root up) (instance_number d i) k leads in
       let inst = then_some (slice_get (insts_of d body.0) i) (λ inst. number_named d inst.model) k body.2 in
-      (Some (start_of d up, map (λ formal. place_in d body.0 (actual_for inst.0 formal)) (data_inputs_of d k)), record { up = up; i = i; around = body.0; inst = inst.0; is_path = refl; leads = body.1; at = inst.1; is_start = refl; is_actuals = refl })
+      (Some (start_of d up, map (λ formal. net_place d body.0 (actual_for inst.0 formal)) (data_inputs_of d k)), record { up = up; i = i; around = body.0; inst = inst.0; is_path = refl; leads = body.1; at = inst.1; is_start = refl; is_actuals = refl })
 
   -- each column has one driver
   right_at : (n : ℕ) (c : Column) → slice_get (columns d) n ≡ Some c → (s : Driver ℕ) × IsOnlyDriver d c s

@@ -20,7 +20,7 @@ use Rattle.lid_check_parts.specs.Inner.{buffer, latches_of, driver_covers}
 use Rattle.lid_check_parts.proofs.Lists.{pushed_more}
 use Rattle.lid_check_parts.proofs.Earlier.{Gives, read_earlier}
 use Rattle.lid_check_parts.proofs.Looping.{buffered}
-use Rattle.lid_strict_engine.specs.Rows.{bit_at, after}
+use Rattle.lid_strict_engine.specs.Rows.{bit_at, known_after}
 use Rattle.lid_strict_engine.proofs.Settling.{after_keeps, after_has}
 use Rattle.lid_strict.specs.Networks.{driver_list, reads_of, AreHeldBelow}
 use Rattle.lid_strict.specs.Layouts.{driver_at, input_nets, input_places, nets_in, places_in, latches_in, network_covers, IsLaidOut, known_first, IsRunnable, held_bits, FitsTable}
@@ -151,16 +151,16 @@ module _ (network : List (Driver ℕ)) (order : List ℕ) (ordered : IsOrder (re
   pub earlier : ReadEarlier base (network_covers network order)
   earlier = read_earlier (reads_of network) order ordered (λ k. driver_covers k (driver_at network k)) base (λ k among. gives k among (driver_at network k) refl)
 
-  cell_known : (k : ℕ) → Among k order → (s : Driver ℕ) → driver_at network k ≡ s → (c : FlatCover) → Among c (driver_covers k s) → Among c.out (after base (network_covers network order))
+  cell_known : (k : ℕ) → Among k order → (s : Driver ℕ) → driver_at network k ≡ s → (c : FlatCover) → Among c (driver_covers k s) → Among c.out (known_after base (network_covers network order))
   cell_known k among s is c cell = after_has base (network_covers network order) c (among_flat (λ k. driver_covers k (driver_at network k)) k c order among (subst (λ (s : Driver ℕ). Among c (driver_covers k s)) (sym is) cell))
 
-  known_by : (k : ℕ) → Among k order → (s : Driver ℕ) → driver_at network k ≡ s → Among k (after base (network_covers network order))
+  known_by : (k : ℕ) → Among k order → (s : Driver ℕ) → driver_at network k ≡ s → Among k (known_after base (network_covers network order))
   known_by k among (from_input j) is = after_keeps base (network_covers network order) k (gives k among (from_input j) is)
   known_by k among (from_latch first input) is = after_keeps base (network_covers network order) k (gives k among (from_latch first input) is)
   known_by k among (from_cover cover inputs) is = cell_known k among (from_cover cover inputs) is (record { ins = inputs; out = k; cover = cover }) (inl refl)
   known_by k among (from_connection other) is = cell_known k among (from_connection other) is (record { ins = other ∷ []; out = k; cover = buffer }) (inl refl)
 
-  pub all_known : (k : ℕ) → k < length network → Among k (after base (network_covers network order))
+  pub all_known : (k : ℕ) → k < length network → Among k (known_after base (network_covers network order))
   all_known k h = known_by k (ordered.all k (let long = length-map network read_now in omega arith)) (driver_at network k) refl
 
   module _ (p : Layout) (laid : IsLaidOut network order p) where
@@ -185,8 +185,8 @@ module _ (network : List (Driver ℕ)) (order : List ℕ) (ordered : IsOrder (re
           (all_at (λ (s : Driver ℕ). AllByRecursion (λ a. a < length network) (read_before s)) network k (driver_at network k) below (slice_get-get_or network k (from_input 0) (order_below k among))))));
       pairs = ap length laid.places ∙ same_places network order ∙ sym (ap length laid.ins);
       earlier = subst (ReadEarlier (known_first p)) (sym laid.covers) (subst (λ (ks : List ℕ). ReadEarlier ks (network_covers network order)) base_is earlier);
-      all = λ k h. subst (λ (cs : List FlatCover). Among k (after (known_first p) cs)) (sym laid.covers)
-          (subst (λ (ks : List ℕ). Among k (after ks (network_covers network order))) base_is (all_known k (subst (λ (n : ℕ). k < n) laid.nets h)));
+      all = λ k h. subst (λ (cs : List FlatCover). Among k (known_after (known_first p) cs)) (sym laid.covers)
+          (subst (λ (ks : List ℕ). Among k (known_after ks (network_covers network order))) base_is (all_known k (subst (λ (n : ℕ). k < n) laid.nets h)));
     }
 
     -- a strict table is one of its runs

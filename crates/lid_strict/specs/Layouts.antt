@@ -8,7 +8,7 @@ use Rattle.lid_design.specs.Network.{Driver, from_input, from_latch, from_cover,
 use Rattle.lid_design.specs.Flat.{latch_out, latch_input, latch_init, ReadEarlier, IsRow}
 use Rattle.lid_check_parts.specs.Inner.{latches_of, driver_covers}
 use Rattle.lid_strict_engine.specs.Programs.{program_covers, IsReadyProgram}
-use Rattle.lid_strict_engine.specs.Rows.{bit_at, after}
+use Rattle.lid_strict_engine.specs.Rows.{bit_at, known_after}
 use Rattle.lid_strict.specs.Networks.{rows_at}
 use Rattle.lid_strict.specs.declared.layout.Layout.{Layout}
 
@@ -63,7 +63,7 @@ pub record IsRunnable (p : Layout) : Type 0 where
   pub taken : AllByRecursion (λ k. k < p.program.nets) (map latch_input p.latches.items)
   pub pairs : length p.places.items ≡ length p.ins.items
   pub earlier : ReadEarlier (known_first p) (program_covers p.program)
-  pub all : (k : ℕ) → k < p.program.nets → Among k (after (known_first p) (program_covers p.program))
+  pub all : (k : ℕ) → k < p.program.nets → Among k (known_after (known_first p) (program_covers p.program))
 
 -- the bits that latches hold in a row: first those that they begin with, later those of their inputs in
 -- the row before

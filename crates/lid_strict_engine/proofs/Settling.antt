@@ -10,7 +10,7 @@ use Rattle.lid_cover.specs.Cover.{cover_value}
 use Rattle.lid_design.specs.declared.FlatCover.{FlatCover}
 use Rattle.lid_design.specs.declared.FlatLatch.{FlatLatch}
 use Rattle.lid_design.specs.Flat.{IsRow, ReadEarlier}
-use Rattle.lid_strict_engine.specs.Rows.{bit_at, AreRightAt, after}
+use Rattle.lid_strict_engine.specs.Rows.{bit_at, AreRightAt, known_after}
 
 -- a right bit, written anywhere
 pub bit_set : (f : ℕ → Bool) (known : List ℕ) (bits : List Bool) (k : ℕ) (v : Bool) → k < length bits → v ≡ f k → AreRightAt f known bits → AreRightAt f (k ∷ known) (set bits k v)
@@ -38,22 +38,22 @@ agrees_all f known bits (k ∷ nets) agrees all =
 pub take_at : {A : Type 0} (xs : List A) (i : ℕ) (x : A) → slice_get xs i ≡ Some x → take (i + 1) xs ≡ take i xs ++ x ∷ []
 take_at {A} xs i x here = take_more xs i x (slice_get_within xs i x here) ∙ ap (λ (y : A). take i xs ++ y ∷ []) (get_or_from_slice_get xs i x x here)
 
-pub after_push : (known : List ℕ) (covers : List FlatCover) (c : FlatCover) → after known (covers ++ c ∷ []) ≡ c.out ∷ after known covers
+pub after_push : (known : List ℕ) (covers : List FlatCover) (c : FlatCover) → known_after known (covers ++ c ∷ []) ≡ c.out ∷ known_after known covers
 after_push known [] c = refl
 after_push known (d ∷ covers) c = after_push (d.out ∷ known) covers c
 
 -- what is known stays known
-pub after_keeps : (known : List ℕ) (cs : List FlatCover) (k : ℕ) → Among k known → Among k (after known cs)
+pub after_keeps : (known : List ℕ) (cs : List FlatCover) (k : ℕ) → Among k known → Among k (known_after known cs)
 after_keeps known [] k among = among
 after_keeps known (c ∷ cs) k among = after_keeps (c.out ∷ known) cs k (inr among)
 
-pub after_has : (known : List ℕ) (cs : List FlatCover) (c : FlatCover) → Among c cs → Among c.out (after known cs)
+pub after_has : (known : List ℕ) (cs : List FlatCover) (c : FlatCover) → Among c cs → Among c.out (known_after known cs)
 after_has known [] c among = absurd among
 after_has known (d ∷ cs) c (inl same) = after_keeps (d.out ∷ known) cs c.out (inl (ap (λ (c : FlatCover). c.out) same))
 after_has known (d ∷ cs) c (inr among) = after_has (d.out ∷ known) cs c among
 
 -- a cover reads what is known once those before it are run
-pub earlier_at : (known : List ℕ) (covers : List FlatCover) (i : ℕ) (c : FlatCover) → ReadEarlier known covers → slice_get covers i ≡ Some c → AllByRecursion (λ k. Among k (after known (take i covers))) c.ins
+pub earlier_at : (known : List ℕ) (covers : List FlatCover) (i : ℕ) (c : FlatCover) → ReadEarlier known covers → slice_get covers i ≡ Some c → AllByRecursion (λ k. Among k (known_after known (take i covers))) c.ins
 earlier_at known [] i c earlier here = absurd (let e : None ≡ Some c = here in cc)
 earlier_at known (d ∷ covers) zero c earlier here =
     let same : d ≡ c = (let e : Some d ≡ Some c = here in cc) in
@@ -61,12 +61,12 @@ earlier_at known (d ∷ covers) zero c earlier here =
 earlier_at known (d ∷ covers) (suc i) c earlier here = earlier_at (d.out ∷ known) covers i c earlier.1 here
 
 -- one more cover is run
-pub settled_next : (covers : List FlatCover) (i : ℕ) (c : FlatCover) (bits : List Bool) (v : Bool) → slice_get covers i ≡ Some c → c.out < length bits → v ≡ cover_value c.cover (map (bit_at bits) c.ins) → (f : ℕ → Bool) (known : List ℕ) → IsRow covers f → ReadEarlier known covers → AreRightAt f (after known (take i covers)) bits → AreRightAt f (after known (take (i + 1) covers)) (set bits c.out v)
+pub settled_next : (covers : List FlatCover) (i : ℕ) (c : FlatCover) (bits : List Bool) (v : Bool) → slice_get covers i ≡ Some c → c.out < length bits → v ≡ cover_value c.cover (map (bit_at bits) c.ins) → (f : ℕ → Bool) (known : List ℕ) → IsRow covers f → ReadEarlier known covers → AreRightAt f (known_after known (take i covers)) bits → AreRightAt f (known_after known (take (i + 1) covers)) (set bits c.out v)
 settled_next covers i c bits v here room value f known row earlier agrees =
-    let reads : map (bit_at bits) c.ins ≡ map f c.ins = agrees_all f (after known (take i covers)) bits c.ins agrees (earlier_at known covers i c earlier here) in
+    let reads : map (bit_at bits) c.ins ≡ map f c.ins = agrees_all f (known_after known (take i covers)) bits c.ins agrees (earlier_at known covers i c earlier here) in
     let right : v ≡ f c.out = value ∙ ap (cover_value c.cover) reads ∙ sym (all_at (λ (c : FlatCover). f c.out ≡ cover_value c.cover (map f c.ins)) covers i c row here) in
-    subst (λ (nets : List ℕ). AreRightAt f nets (set bits c.out v)) (sym (ap (after known) (take_at covers i c here) ∙ after_push known (take i covers) c))
-    (bit_set f (after known (take i covers)) bits c.out v room right agrees)
+    subst (λ (nets : List ℕ). AreRightAt f nets (set bits c.out v)) (sym (ap (known_after known) (take_at covers i c here) ∙ after_push known (take i covers) c))
+    (bit_set f (known_after known (take i covers)) bits c.out v room right agrees)
 
 -- one more net is given its bit
 pub put_next : (nets : List ℕ) (values bits : List Bool) (i k : ℕ) (v : Bool) → slice_get nets i ≡ Some k → slice_get values i ≡ Some v → k < length bits → (f : ℕ → Bool) (known : List ℕ) → map f nets ≡ values → AreRightAt f (take i nets ++ known) bits → AreRightAt f (take (i + 1) nets ++ known) (set bits k v)

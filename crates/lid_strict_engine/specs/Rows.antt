@@ -11,6 +11,6 @@ abbrev pub AreRightAt : (ℕ → Bool) → List ℕ → List Bool → Type 0
 AreRightAt f nets bits = (k : ℕ) → Among k nets → bit_at bits k ≡ f k
 
 -- the nets that are known once covers are run, where some are known before
-abbrev pub after : List ℕ → List FlatCover → List ℕ
-after known [] = known
-after known (c ∷ covers) = after (c.out ∷ known) covers
+abbrev pub known_after : List ℕ → List FlatCover → List ℕ
+known_after known [] = known
+known_after known (c ∷ covers) = known_after (c.out ∷ known) covers

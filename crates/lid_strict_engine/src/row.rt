@@ -9,7 +9,7 @@ ghost use Rattle.lid_design.specs.declared.FlatCover.{FlatCover};
 ghost use Rattle.lid_design.specs.Flat.{IsRow, ReadEarlier, latch_out, latch_input, latch_init};
 ghost use Rattle.lid_strict_engine.specs.Truth.{is_set, IsTruthTable};
 ghost use Rattle.lid_strict_engine.specs.Programs.{cover_with, step_cover, program_covers, IsStep, IsReadyProgram};
-ghost use Rattle.lid_strict_engine.specs.Rows.{bit_at, AreRightAt, after};
+ghost use Rattle.lid_strict_engine.specs.Rows.{bit_at, AreRightAt, known_after};
 
 use crate::program::{Program, ProgramStep};
 use crate::truth::{TABLE_INPUTS, value_of};
@@ -88,7 +88,7 @@ pub fn settle(program: &Program, bits: &mut [bool])
     requires size { length bits.old ≡ program.now.nets + 1 }
     ensures size { length bits.new ≡ length bits.old }
     ensures bits { (f : ℕ → Bool) (known : List ℕ) → IsRow (program_covers program.now) f → ReadEarlier known (program_covers program.now)
-        → AreRightAt f known bits.old → AreRightAt f (after known (program_covers program.now)) bits.new }
+        → AreRightAt f known bits.old → AreRightAt f (known_after known (program_covers program.now)) bits.new }
 {
     for i in 0..program.steps.len() {
         let step = program.steps[i];

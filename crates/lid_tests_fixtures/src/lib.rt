@@ -8,6 +8,6 @@ mod rows;
 mod run;
 
 pub use netlists::{DIAMOND, MADE, ONE, RING, system_of};
-pub use placing::{Placed, placed_of, placement_of};
+pub use placing::{SystemAndStations, placed_of, placement_of};
 pub use rows::{are_rows, rows_of};
 pub use run::{SampleRun, run_of};

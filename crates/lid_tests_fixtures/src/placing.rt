@@ -13,7 +13,7 @@ use std::alloc::Global;
 
 /// A system and its stations.
 #[derive(Drop)]
-pub struct Placed {
+pub struct SystemAndStations {
     /// The system.
     pub system: System,
     /// Its stations.
@@ -22,7 +22,7 @@ pub struct Placed {
 
 /// The system of a netlist with its stations. None where one of the texts is refused, where the design is not
 /// accepted or has too many channels, and for want of memory.
-pub fn placed_of(alloc: Global, netlist: &[u8], stations: &[u8]) -> Option<Placed>
+pub fn placed_of(alloc: Global, netlist: &[u8], stations: &[u8]) -> Option<SystemAndStations>
     ensures system { IfSome result (λ placed. IsWellFormed placed.system) }
     ensures fits { IfSome result (λ placed. Fits placed.system placed.placement) }
 {
@@ -30,7 +30,7 @@ pub fn placed_of(alloc: Global, netlist: &[u8], stations: &[u8]) -> Option<Place
         return None;
     };
     match read_stations(alloc, stations, &system) {
-        Ok(placement) => Some(Placed { system, placement }),
+        Ok(placement) => Some(SystemAndStations { system, placement }),
         Err(_) => None,
     }
 }

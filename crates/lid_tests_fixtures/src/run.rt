@@ -3,7 +3,7 @@
 ghost use Rattle.std.specs.Prelude.{IfSome};
 ghost use Rattle.lid_tests_fixtures.specs.Runs.{IsFittingRun};
 
-use crate::placing::{Placed, placed_of};
+use crate::placing::{SystemAndStations, placed_of};
 use crate::rows::{are_rows, rows_of, width_of};
 use lid_stations::Placement;
 use lid_system::System;
@@ -26,7 +26,7 @@ pub struct SampleRun {
 pub fn run_of(alloc: Global, netlist: &[u8], stations: &[u8], letters: &[u8]) -> Option<SampleRun>
     ensures { IfSome result (λ run. IsFittingRun run.system run.placement run.rows.bits) }
 {
-    let Some(Placed { system, placement }) = placed_of(alloc, netlist, stations) else {
+    let Some(SystemAndStations { system, placement }) = placed_of(alloc, netlist, stations) else {
         return None;
     };
     let Some(rows) = rows_of(alloc, letters, width_of(&system)) else {

@@ -3,7 +3,7 @@ use Rattle.std.proofs.Common.{◌≡◌, ℕ, zero, suc, ◌+◌, ◌-◌, ◌<�
 use Rattle.std.specs.Prelude.{IsSome}
 use Rattle.lid_base.specs.declared.outside.Fetch.{Fetch}
 use Rattle.lid_base.specs.Outside.{Came, one_fetch}
-use Rattle.lid_base_io.specs.Calls.{CameAs, IsGoing, IsFetching}
+use Rattle.lid_base_io.specs.Calls.{CameAs, FetchesSoFar, IsFetching}
 use Rattle.lid_base_io.specs.Transfer.{FetchedNext}
 use Rattle.lid_base_io.specs.declared.fetching.FetchFault.{FetchFault}
 use Rattle.lid_base_io.specs.declared.fetching.FetchFault.TheVariants as fetching
@@ -34,14 +34,14 @@ unread_still fetching.Read p = tt
 unread_still fetching.Memory p = p refl
 
 module _ (whole : Bool) (held : Option (List ℕ)) (name : List ℕ) (first : Option (List Fetch)) where
-  pub going_in_part : (now : Option (List Fetch)) (at : ℕ) → CameAs first now (IsGoing whole held name most_bytes at) → CameInPart whole held name first now
+  pub going_in_part : (now : Option (List Fetch)) (at : ℕ) → CameAs first now (FetchesSoFar whole held name most_bytes at) → CameInPart whole held name first now
   going_in_part now at so = (so.0, so.1, part_of_going whole held name most_bytes at so.0 so.2)
 
   pub came_begins : (at : ℕ) (count : Option ℕ) → at ≡ 0 → count ≡ None → CameTo whole held name at first first count
-  came_begins at count begins none = subst (CameTo whole held name at first first) (sym none) (subst (λ (k : ℕ). CameAs first first (IsGoing whole held name most_bytes k)) (sym begins) (begins_as whole held name most_bytes first))
+  came_begins at count begins none = subst (CameTo whole held name at first first) (sym none) (subst (λ (k : ℕ). CameAs first first (FetchesSoFar whole held name most_bytes k)) (sym begins) (begins_as whole held name most_bytes first))
 
   -- a piece was fetched
-  pub came_on : (now new : Option (List Fetch)) (bytes more : List ℕ) (at room n : ℕ) → length bytes ≤ most_bytes → room ≡ min 65536 (most_bytes + 1 - length bytes) → CameAs first now (IsGoing whole held name most_bytes (length bytes))
+  pub came_on : (now new : Option (List Fetch)) (bytes more : List ℕ) (at room n : ℕ) → length bytes ≤ most_bytes → room ≡ min 65536 (most_bytes + 1 - length bytes) → CameAs first now (FetchesSoFar whole held name most_bytes (length bytes))
       → Came now new (one_fetch name (length bytes) room) → n ≤ room → length more ≡ length bytes + n → FetchedNext whole held bytes more room → at ≡ length bytes + n → CameSo whole held name at first new (nat_lt 0 n)
   came_on now new bytes more at room n within is so came few size next there = by (nat_lt 0 n) refl
     where
@@ -55,7 +55,7 @@ module _ (whole : Bool) (held : Option (List ℕ)) (name : List ℕ) (first : Op
 
       by : (b : Bool) → nat_lt 0 n ≡ b → CameSo whole held name at first new b
       by true e =
-          subst (λ (k : ℕ). CameAs first new (IsGoing whole held name most_bytes k)) (size ∙ sym there)
+          subst (λ (k : ℕ). CameAs first new (FetchesSoFar whole held name most_bytes k)) (size ∙ sym there)
           (goes_on_as whole held name most_bytes room bytes first now new within is so came more n (some_of n e) few size next)
       by false e =
           let none = none_of n e in
@@ -93,5 +93,5 @@ module _ (whole : Bool) (held : Option (List ℕ)) (name : List ℕ) (first : Op
   came_whole now at n count is so = subst (CameTo whole held name at first now) is so
 
   -- the place of a text whose bytes so far are known
-  pub came_at : (now : Option (List Fetch)) (at : ℕ) (count : Option ℕ) (bytes : List ℕ) → count ≡ None → at ≡ length bytes → CameTo whole held name at first now count → CameAs first now (IsGoing whole held name most_bytes (length bytes))
-  came_at now at count bytes none long so = subst (λ (k : ℕ). CameAs first now (IsGoing whole held name most_bytes k)) long (subst (CameTo whole held name at first now) none so)
+  pub came_at : (now : Option (List Fetch)) (at : ℕ) (count : Option ℕ) (bytes : List ℕ) → count ≡ None → at ≡ length bytes → CameTo whole held name at first now count → CameAs first now (FetchesSoFar whole held name most_bytes (length bytes))
+  came_at now at count bytes none long so = subst (λ (k : ℕ). CameAs first now (FetchesSoFar whole held name most_bytes k)) long (subst (CameTo whole held name at first now) none so)

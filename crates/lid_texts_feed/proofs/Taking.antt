@@ -14,7 +14,7 @@ use Rattle.lid_texts.specs.Scanned.{HasRead, Gives}
 use Rattle.lid_texts.proofs.Splits.{ended_are}
 use Rattle.lid_texts_feed.specs.declared.text.TextScan.{TextScan}
 use Rattle.lid_texts_feed.specs.Feeds.{most_bytes, IsText, IsRefusedText, IfRefused}
-use Rattle.lid_texts_feed.specs.Fetching.{BeginsFile, ScansPiece, HasFetched, TakesPiece, Knows, KnowsMore, fetch_fault, text_fault}
+use Rattle.lid_texts_feed.specs.Fetching.{BeginsFile, ScansPiece, HasFetched, TakesPiece, Knows, KnowsMore, fetch_fault, feed_fault}
 
 start_of : (held : Option (List ℕ)) (bytes : List ℕ) → BeginsFile held bytes → IsStart held bytes
 start_of None bytes begins = tt
@@ -43,7 +43,7 @@ piece_fine P fetching.Read = tt
 piece_fine P fetching.Memory = tt
 
 -- the fault of a text is told, but for want of memory
-pub text_refused : (P : VecFault → Type 0) (fault : VecFault) → (fault ≡ Memory) ⊎ P fault → IfRefused P (text_fault fault)
+pub text_refused : (P : VecFault → Type 0) (fault : VecFault) → (fault ≡ Memory) ⊎ P fault → IfRefused P (feed_fault fault)
 text_refused P Memory told = tt
 text_refused P fault (inl e) = absurd (let f = e in cc)
 text_refused P fault (inr p) = p
@@ -60,7 +60,7 @@ module _ (held : Option (List ℕ)) (columns : List (List ℕ)) (outs : ℕ) whe
   }
 
   -- what is read of a text is read with its columns
-  pub refuses : (text : TextScan) (bytes : List ℕ) (fault : VecFault) → HasFetched held columns outs text bytes → IsText held bytes → (fault ≡ Memory) ⊎ (rows_reading text.scan.columns text.scan.outs bytes ≡ Err fault) → IfRefused (IsRefusedText held columns outs) (text_fault fault)
+  pub refuses : (text : TextScan) (bytes : List ℕ) (fault : VecFault) → HasFetched held columns outs text bytes → IsText held bytes → (fault ≡ Memory) ⊎ (rows_reading text.scan.columns text.scan.outs bytes ≡ Err fault) → IfRefused (IsRefusedText held columns outs) (feed_fault fault)
   refuses text bytes fault fed whole told = text_refused (IsRefusedText held columns outs) fault (by told)
     where
       by : (fault ≡ Memory) ⊎ (rows_reading text.scan.columns text.scan.outs bytes ≡ Err fault) → (fault ≡ Memory) ⊎ IsRefusedText held columns outs fault

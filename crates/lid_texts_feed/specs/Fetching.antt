@@ -2,7 +2,7 @@
 -- invariants.
 use Rattle.std.specs.Prelude.{◌≡◌, ℕ, ◌+◌, ◌-◌, ◌≤◌, Bool, true, false, List, ◌∷◌, [], ◌++◌, length, take, reverse, Option, Some, None, IfSome}
 use Rattle.lid_base.specs.declared.outside.Fetch.{Fetch}
-use Rattle.lid_base_io.specs.Calls.{CameAs, IsGoing, IsFetching, IsFetchingPart}
+use Rattle.lid_base_io.specs.Calls.{CameAs, FetchesSoFar, IsFetching, IsFetchingPart}
 use Rattle.lid_base_io.specs.Transfer.{FetchedNext}
 use Rattle.lid_base_io.specs.declared.fetching.FetchFault.{FetchFault}
 use Rattle.lid_base_io.specs.declared.fetching.FetchFault.TheVariants as fetching
@@ -53,12 +53,12 @@ Knows held columns outs text (Some n) rows = AreAll held columns outs rows × (n
 
 -- the fetches so far, of which the next one comes from this place; or all of them, once the text has ended
 abbrev pub CameSo : Bool → Option (List ℕ) → List ℕ → ℕ → Option (List Fetch) → Option (List Fetch) → Bool → Type 0
-CameSo whole held name at first now true = CameAs first now (IsGoing whole held name most_bytes at)
+CameSo whole held name at first now true = CameAs first now (FetchesSoFar whole held name most_bytes at)
 CameSo whole held name at first now false = CameAs first now (IsFetching whole held name most_bytes)
 
 -- the same by whether it has been found how many rows the text has
 abbrev pub CameTo : Bool → Option (List ℕ) → List ℕ → ℕ → Option (List Fetch) → Option (List Fetch) → Option ℕ → Type 0
-CameTo whole held name at first now None = CameAs first now (IsGoing whole held name most_bytes at)
+CameTo whole held name at first now None = CameAs first now (FetchesSoFar whole held name most_bytes at)
 CameTo whole held name at first now (Some n) = CameAs first now (IsFetching whole held name most_bytes)
 
 -- some first fetches of the text
@@ -97,6 +97,6 @@ fetch_fault fetching.Read = Read
 fetch_fault fetching.Memory = Memory
 
 -- why a text stands for no rows
-abbrev pub text_fault : VecFault → FeedFault
-text_fault rows.Memory = Memory
-text_fault fault = Refused fault
+abbrev pub feed_fault : VecFault → FeedFault
+feed_fault rows.Memory = Memory
+feed_fault fault = Refused fault

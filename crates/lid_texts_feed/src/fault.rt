@@ -1,7 +1,7 @@
 //! Why there is no row.
 
 ghost use Rattle.std.specs.Prelude.{◌≡◌};
-ghost use Rattle.lid_texts_feed.specs.Fetching.{fetch_fault, text_fault};
+ghost use Rattle.lid_texts_feed.specs.Fetching.{fetch_fault, feed_fault};
 
 use lid_base_io::FetchFault;
 use lid_texts::VecFault;
@@ -41,7 +41,7 @@ pub(crate) fn unfetched(fault: FetchFault) -> FeedFault
 
 /// The fault of a text that was scanned to its end.
 pub(crate) fn refused(fault: VecFault) -> FeedFault
-    ensures { result ≡ text_fault fault }
+    ensures { result ≡ feed_fault fault }
 {
     match fault {
         VecFault::Memory => FeedFault::Memory,

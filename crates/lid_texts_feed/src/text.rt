@@ -4,7 +4,7 @@ ghost use Rattle.std.specs.Prelude.{◌≡◌, ℕ, ◌+◌, ◌≤◌, ◌<◌,
 ghost use Rattle.lid_texts.specs.Scans.{ended_rows};
 ghost use Rattle.lid_base.specs.declared.outside.Fetch.{Fetch};
 ghost use Rattle.lid_base.specs.Outside.{Rose, Came, one_fetch};
-ghost use Rattle.lid_base_io.specs.Calls.{CameAs, IsGoing};
+ghost use Rattle.lid_base_io.specs.Calls.{CameAs, FetchesSoFar};
 ghost use Rattle.lid_texts.specs.Scanned.{HasRead};
 ghost use Rattle.lid_texts_feed.specs.Feeds.{most_bytes, IsText, IsRefusedText, IfRead, IfRefused, IsFetchedFor, UnlessRead};
 ghost use Rattle.lid_texts_feed.specs.Fetching.{ScansPiece, HasFetched, TakesPiece, CameSo, CameTo, CameInPart, Knows, KnowsMore, left_of};
@@ -92,10 +92,10 @@ impl TextScan {
         ensures further { IfOk result (λ more. more ≡ true → (self.old.fetched ≤ most_bytes) × (self.old.fetched < self.new.fetched)) }
         ensures count { self.new.count ≡ self.old.count }
         ensures came { (columns : List (List ℕ)) (outs : ℕ) (bytes : List ℕ) (first : Option (List Fetch)) → HasFetched (S.held shelf.old name.now) columns outs self.old bytes
-            → CameAs first (S.fetches shelf.old) (IsGoing S.whole (S.held shelf.old name.now) name.now most_bytes (length bytes))
+            → CameAs first (S.fetches shelf.old) (FetchesSoFar S.whole (S.held shelf.old name.now) name.now most_bytes (length bytes))
             → IfOk result (CameSo S.whole (S.held shelf.old name.now) name.now self.new.fetched first (S.fetches shelf.new)) }
         ensures begun { (columns : List (List ℕ)) (outs : ℕ) (bytes : List ℕ) (first : Option (List Fetch)) → HasFetched (S.held shelf.old name.now) columns outs self.old bytes
-            → CameAs first (S.fetches shelf.old) (IsGoing S.whole (S.held shelf.old name.now) name.now most_bytes (length bytes))
+            → CameAs first (S.fetches shelf.old) (FetchesSoFar S.whole (S.held shelf.old name.now) name.now most_bytes (length bytes))
             → OnErr result (CameInPart S.whole (S.held shelf.old name.now) name.now first (S.fetches shelf.new)) }
         ensures still { OnOk result ((q : List ℕ) → S.faults shelf.new q ≡ S.faults shelf.old q) }
         ensures wanting { IfErr result (λ e. e ≡ FetchFault.Memory → (q : List ℕ) → S.faults shelf.new q ≡ S.faults shelf.old q) }

@@ -16,7 +16,7 @@ use Rattle.lid_stall_text.specs.declared.stalls.Stall.{Stall}
 use Rattle.lid_stations.specs.declared.placement.Placement.{Placement}
 use Rattle.lid_stations.specs.Placements.{Links, no_relays}
 use Rattle.lid_stations.specs.Stations.{actor_count}
-use Rattle.lid_top_script.specs.Scripts.{Ending, refuses, gives, Script, fetch, again, decide, end, Reading, good, bad, step, net_reading, vec_reading, check_step, net_step, report_script, check_script, rows_script, checked_script, strict_script, links, system_step, placement_step, stalls_read, stalls_step, stations_read, wires_read, cert_read, wires_script, told_script, judged_script, judging_script, cert_script, place_script, telling_script, verify_script, trace_read, rerun_script, traced_script, vec_script, stalled_script, clock_script, rows_step, wrapped_step, held_step, schedule_read, schedule_script, walk_script, freeing_script, free_script, waving_script, wave_script, dump_read, unwave_script, emit_read, wrapping_script, emit_script, size_read, generating, gen_script, script_of, IsFetched, IsReread, IsChecked, IsUnchecked, EndsIn}
+use Rattle.lid_top_script.specs.Scripts.{Ending, refuses, gives, Script, fetch, again, decide, end, Reading, good, bad, read_then, net_reading, vec_reading, check_step, net_step, report_script, check_script, rows_script, checked_script, strict_script, links, system_step, placement_step, stalls_read, stalls_step, stations_read, wires_read, cert_read, wires_script, told_script, judged_script, judging_script, cert_script, place_script, telling_script, verify_script, trace_read, rerun_script, traced_script, vec_script, stalled_script, clock_script, rows_step, wrapped_step, held_step, schedule_read, schedule_script, walk_script, freeing_script, free_script, waving_script, wave_script, dump_read, unwave_script, emit_read, wrapping_script, emit_script, size_read, generating, gen_script, script_of, IsFetched, IsReread, IsChecked, IsUnchecked, EndsIn}
 use Rattle.lid_top_script.specs.Statuses.{TellsAll}
 use Rattle.lid_base.proofs.Options.{same_some}
 
@@ -53,7 +53,7 @@ ends_once held (decide {A} Good Bad next) x y settled tells (inr (line, b, e)) (
 ends_once held (decide {A} Good Bad next) x y settled tells (inr (line, b, e)) (inr (other, c, h)) = sym e ∙ ap refuses (settled.2 line other b c) ∙ h
 ends_once held (end last) x y settled tells ex ey = sym ex ∙ ey
 
-settled_step : {A : Type 0} (held : List ℕ → Option (List ℕ)) (reading : Reading A) (next : A → Script) → ((a : A) → IsSettled held (next a)) → IsSettled held (step reading next)
+settled_step : {A : Type 0} (held : List ℕ → Option (List ℕ)) (reading : Reading A) (next : A → Script) → ((a : A) → IsSettled held (next a)) → IsSettled held (read_then reading next)
 settled_step held (good a) next s = s a
 settled_step held (bad line) next s = tt
 

@@ -17,7 +17,7 @@ use Rattle.lid_stations.specs.Placements.{Links, no_relays}
 use Rattle.lid_stations.specs.Markings.{marking}
 use Rattle.lid_rate_text.specs.Throughput.{IsRateText}
 use Rattle.lid_top_script.specs.Outputs.{Output, throughput, verdict, IsTextOf}
-use Rattle.lid_top_script.specs.Scripts.{Ending, refuses, denies, gives, Script, end, Reading, good, bad, step, net_limit, net_reading, text_limit, links, check_step, net_step, system_step, stations_read, placement_step, cert_unless, cert_read, told_script, IsVerdictOn, NoLine, judged_script, judging_script, cert_script, telling_script, verify_script, IsFetched, EndsIn}
+use Rattle.lid_top_script.specs.Scripts.{Ending, refuses, denies, gives, Script, end, Reading, good, bad, read_then, net_limit, net_reading, text_limit, links, check_step, net_step, system_step, stations_read, placement_step, cert_unless, cert_read, told_script, IsVerdictOn, NoLine, judged_script, judging_script, cert_script, telling_script, verify_script, IsFetched, EndsIn}
 use Rattle.lid_top_script.specs.Statuses.{HasText}
 use Rattle.lid_top.specs.Verified.{RatesAreVerified}
 
@@ -44,7 +44,7 @@ module _ (held : List ℕ → Option (List ℕ)) (P : Ending → Type 0) (output
 
   -- where one script goes on to the output and another goes on to such an ending, so do the scripts that come
   -- to them by the same steps
-  after_step : {A : Type 0} (r : Reading A) (next other : A → Script) → ((a : A) → EndsIn held (next a) (gives output) → EndsSo (other a)) → EndsIn held (step r next) (gives output) → EndsSo (step r other)
+  after_step : {A : Type 0} (r : Reading A) (next other : A → Script) → ((a : A) → EndsIn held (next a) (gives output) → EndsSo (other a)) → EndsIn held (read_then r next) (gives output) → EndsSo (read_then r other)
   after_step (good a) next other go e = go a e
   after_step (bad line) next other go e = absurd (not_refused e)
 
@@ -93,7 +93,7 @@ module _ (held : List ℕ → Option (List ℕ)) (cert text : List ℕ) (told : 
       let reads : cert_read text ≡ good c = ap (λ (t : List ℕ). cert_read t) r.written ∙ ap (λ f. cert_unless f (cert_of (cert_text c))) r.back.sound ∙ ap good r.back.same in (
         gives (verdict l c),
         (l, c, r.written, refl),
-        (text, fetched, subst (λ read. EndsIn held (step read (judging_script l p)) (gives (verdict l c))) (sym reads) (inl (true, (λ _. r.certifies, λ _. refl), refl))),
+        (text, fetched, subst (λ read. EndsIn held (read_then read (judging_script l p)) (gives (verdict l c))) (sym reads) (inl (true, (λ _. r.certifies, λ _. refl), refl))),
       )
 
   verified : (net : List ℕ) (stations root : Option (List ℕ)) → HasText held (telling_script throughput net stations root) text → HasEnding held (IsVerdict text) (verify_script net cert stations root)

@@ -13,7 +13,7 @@ use Rattle.lid_top_script.specs.Scripts.{IsFetched, rows_limit, vec_reading}
 use Rattle.lid_top_script.specs.Causes.{Got, Misses, stop_of_rows}
 use Rattle.lid_top_script.proofs.Readings.{vec_good, vec_declines}
 use Rattle.lid_top_script.proofs.Composition.{misses_reading}
-use Rattle.lid_top_clock.specs.Clocking.{HasRows}
+use Rattle.lid_top_clock.specs.Clocking.{FileHasRows}
 use Rattle.lid_top_clock.specs.Stops.{stop_of_feed}
 
 module _ (held : List ℕ → Option (List ℕ)) (d : Design) (vec : List ℕ) (columns : List (List ℕ)) (outs : ℕ) (named : columns ≡ root_inputs d) (counted : outs ≡ length (root_outputs d)) where
@@ -23,7 +23,7 @@ module _ (held : List ℕ → Option (List ℕ)) (d : Design) (vec : List ℕ) (
   got_all : (rows : List (List Bool)) → AreAll (held vec) columns outs rows → Got held vec rows_limit (vec_reading d) rows
   got_all rows all = record { bytes = all.bytes; fetched = fetched all.bytes all.fetched; stands = vec_good d all.bytes columns outs (record { columns = columns; bits = rows }) named counted all.reads }
 
-  pub has_rows : (n : ℕ) → feeds.HasRows (held vec) columns outs n → HasRows held d vec n
+  pub has_rows : (n : ℕ) → feeds.HasRows (held vec) columns outs n → FileHasRows held d vec n
   has_rows n h = record {
     rows = h.rows;
     got = got_all h.rows h.all;

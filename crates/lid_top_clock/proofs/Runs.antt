@@ -24,7 +24,7 @@ use Rattle.lid_texts_feed.specs.declared.fault.FeedFault.TheVariants as feed
 use Rattle.lid_texts_feed.specs.Feeds.{IsText}
 use Rattle.lid_top_clock.specs.declared.fault.RunFault.{RunFault}
 use Rattle.lid_top_clock.specs.declared.fault.RunFault.TheVariants as run
-use Rattle.lid_top_clock.specs.Runnings.{ClockRun, run_of, columns_of, source_columns, AreGiven, LifeBegins, WritesPart, HasRun, HasStopped, IsCause}
+use Rattle.lid_top_clock.specs.Runnings.{ClockRun, run_of, columns_of, source_columns, AreGiven, LifeBegins, WritesPart, HasRun, HasStopped, IsRunCause}
 use Rattle.lid_top_clock.specs.RunTexts.{IsRunText}
 use Rattle.lid_top_script.specs.declared.fault.Stop.{Stop}
 use Rattle.lid_top_script.specs.declared.fault.Stop.TheVariants.{Refused, Read, Memory, Denied}
@@ -155,7 +155,7 @@ module _ (held : List ℕ → Option (List ℕ)) (d : Design) (s : System) (p : 
       declined bytes Memory text reads = ended (Stopped Memory) tt (λ refused told. refused)
       declined bytes Denied text reads = absurd reads
 
-      by_cause : (given : List (List Bool)) (fault : RunFault) → IsCause r given (Rose (before vec) (after vec)) (Rose (writes out) (writes out_after)) fault → Runs (Err (end_of_run file count fault))
+      by_cause : (given : List (List Bool)) (fault : RunFault) → IsRunCause r given (Rose (before vec) (after vec)) (Rose (writes out) (writes out_after)) fault → Runs (Err (end_of_run file count fault))
       by_cause given (run.Feed feed.Read) cause = ended (Stopped (Read file)) (reached, cause.0) (λ refused told. refused)
       by_cause given (run.Feed feed.Memory) cause = ended (Stopped Memory) tt (λ refused told. refused)
       by_cause given (run.Feed (feed.Refused fault)) cause =

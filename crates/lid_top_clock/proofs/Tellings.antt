@@ -21,7 +21,7 @@ use Rattle.lid_top_clock.specs.declared.fault.RunFault.TheVariants.{Feed, Few, M
 use Rattle.lid_top_clock.specs.declared.lines.Telling.{Telling}
 use Rattle.lid_top_clock.specs.declared.steps.Running.{Running}
 use Rattle.lid_top_clock.specs.RunTexts.{first_outputs, end_text}
-use Rattle.lid_top_clock.specs.Runnings.{ClockRun, LifeBegins, Writes, WritesPart, HasStopped, IsCause}
+use Rattle.lid_top_clock.specs.Runnings.{ClockRun, LifeBegins, Writes, WritesPart, HasStopped, IsRunCause}
 use Rattle.lid_top_clock.specs.Pushing.{HasPushed, Adds, Breaks, Closes, IsTellCause, last_text}
 use Rattle.lid_top_clock.specs.Courses.{RanBy}
 use Rattle.lid_top_clock.specs.Stepping.{IsFed, HasNotEnded, HasTold}
@@ -45,7 +45,7 @@ read_later reads before on feeds.Read c = on c
 read_later reads before on _ c = tt
 
 -- a cause as seen from earlier on
-pub cause_later : (r : ClockRun) (rows : List (List Bool)) (reads before writes within : Type 0) (fault : RunFault) → (before → reads) → (within → writes) → IsCause r rows before within fault → IsCause r rows reads writes fault
+pub cause_later : (r : ClockRun) (rows : List (List Bool)) (reads before writes within : Type 0) (fault : RunFault) → (before → reads) → (within → writes) → IsRunCause r rows before within fault → IsRunCause r rows reads writes fault
 cause_later r rows reads before writes within (Feed fault) on also c = (read_later reads before on fault c.0, c.1)
 cause_later r rows reads before writes within (Few found) on also c = c
 cause_later r rows reads before writes within Memory on also c = tt
@@ -60,7 +60,7 @@ stopped_later r before now reads later writes fault on s = record {
   cause = cause_later r s.rows reads later writes writes fault on (λ w. w) s.cause;
 }
 
-pub cause_of_telling : (r : ClockRun) (rows : List (List Bool)) (reads before writes : Type 0) (fault : RunFault) → (before → writes) → IsTellCause before fault → IsCause r rows reads writes fault
+pub cause_of_telling : (r : ClockRun) (rows : List (List Bool)) (reads before writes : Type 0) (fault : RunFault) → (before → writes) → IsTellCause before fault → IsRunCause r rows reads writes fault
 cause_of_telling r rows reads before writes (Feed fault) on c = absurd c
 cause_of_telling r rows reads before writes (Few found) on c = absurd c
 cause_of_telling r rows reads before writes Memory on c = tt

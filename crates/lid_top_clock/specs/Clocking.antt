@@ -32,7 +32,7 @@ abbrev pub IsCounted : (List ℕ → Option (List ℕ)) → Asked → Wrapping �
 IsCounted held a w count rows = Got held a.vec.now rows_limit (vec_reading w.design) rows × (count ≡ length rows)
 
 -- the file has so many rows for the inputs of the design
-pub record HasRows (held : List ℕ → Option (List ℕ)) (d : Design) (vec : List ℕ) (count : ℕ) : Type 0 where
+pub record FileHasRows (held : List ℕ → Option (List ℕ)) (d : Design) (vec : List ℕ) (count : ℕ) : Type 0 where
   pub rows : List (List Bool)
   pub got : Got held vec rows_limit (vec_reading d) rows
   pub many : count ≡ length rows

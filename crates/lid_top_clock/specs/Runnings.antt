@@ -79,15 +79,15 @@ pub record HasRun (r : ClockRun) (before now : Option (List ℕ)) : Type 0 where
 
 -- why a run stopped that was given these rows: a fetch failed, the file's text is refused, it has fewer rows,
 -- there was no memory, or a write failed
-abbrev pub IsCause : ClockRun → List (List Bool) → Type 0 → Type 0 → RunFault → Type 0
-IsCause r rows reads writes (Feed fault) = IfRead reads fault × IfRefused (IsRefusedText r.held (source_columns r.system) (length r.columns)) fault
-IsCause r rows reads writes (Few found) = AreAll r.held (source_columns r.system) (length r.columns) rows × (found ≡ length rows) × (found < r.rows)
-IsCause r rows reads writes Memory = ⊤
-IsCause r rows reads writes Write = writes
+abbrev pub IsRunCause : ClockRun → List (List Bool) → Type 0 → Type 0 → RunFault → Type 0
+IsRunCause r rows reads writes (Feed fault) = IfRead reads fault × IfRefused (IsRefusedText r.held (source_columns r.system) (length r.columns)) fault
+IsRunCause r rows reads writes (Few found) = AreAll r.held (source_columns r.system) (length r.columns) rows × (found ≡ length rows) × (found < r.rows)
+IsRunCause r rows reads writes Memory = ⊤
+IsRunCause r rows reads writes Write = writes
 
 -- the file gave some rows, and a first part of the text of each life that begins with them was written
 pub record HasStopped (r : ClockRun) (before now : Option (List ℕ)) (reads writes : Type 0) (fault : RunFault) : Type 0 where
   pub rows : List (List Bool)
   pub given : AreGiven r rows
   pub told : (l : Life) → LifeBegins r rows l → WritesPart r l before now
-  pub cause : IsCause r rows reads writes fault
+  pub cause : IsRunCause r rows reads writes fault

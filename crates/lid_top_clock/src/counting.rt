@@ -1,7 +1,7 @@
 //! The first of two readings of rows, which judges and counts them and does not hold them.
 
 ghost use Rattle.std.specs.Prelude.{◌≡◌, ℕ, ◌≤◌, List, IfOk, IfErr};
-ghost use Rattle.lid_top_clock.specs.Clocking.{HasRows};
+ghost use Rattle.lid_top_clock.specs.Clocking.{FileHasRows};
 ghost use Rattle.lid_top_script.specs.Causes.{Misses};
 ghost use Rattle.lid_top_script.specs.Scripts.{rows_limit, vec_reading};
 
@@ -17,7 +17,7 @@ pub(crate) fn count_rows<'a, S: Shelf>(
     wrapped: &Wrapped,
     vec: &'a str,
 ) -> Result<u64, Stop<'a>>
-    ensures ok { IfOk result (HasRows (S.held shelf.old) wrapped.now.design vec.now) }
+    ensures ok { IfOk result (FileHasRows (S.held shelf.old) wrapped.now.design vec.now) }
     ensures err { IfErr result (Misses (S.held shelf.old) vec.now rows_limit (vec_reading wrapped.now.design) (S.faults shelf.old) (S.faults shelf.new)) }
     ensures kept { S.held shelf.new ≡ S.held shelf.old }
     ensures grows { (q : List ℕ) → S.faults shelf.old q ≤ S.faults shelf.new q }

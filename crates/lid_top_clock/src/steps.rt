@@ -12,7 +12,7 @@ ghost use Rattle.lid_stall_text.specs.Holds.{Ascend, listed, stalled_line};
 ghost use Rattle.lid_top_clock.specs.Courses.{RanBy};
 ghost use Rattle.lid_texts_feed.specs.Fetching.{HasGiven, GivesRow};
 ghost use Rattle.lid_top_clock.specs.RunTexts.{cells_after, cycles_traced, traced, end_text};
-ghost use Rattle.lid_top_clock.specs.Runnings.{ClockRun, LifeBegins, IsCause, source_columns};
+ghost use Rattle.lid_top_clock.specs.Runnings.{ClockRun, LifeBegins, IsRunCause, source_columns};
 ghost use Rattle.lid_top_clock.specs.Stepping.{HasBegun, FeedGives, IsRunning, NeedsNoRow, HasNotEnded, IsFed, IsFedOn, HasMadeCycle};
 
 use crate::course::Course;
@@ -57,7 +57,7 @@ fn next_row<S: Shelf>(
     ensures ok { (r : ClockRun) (rows : List (List Bool)) → r.held ≡ S.held shelf.old feed.old.name → FeedGives r feed.old rows
         → IfOk result (GivesRow r.held (source_columns r.system) (length r.columns) feed.new rows) }
     ensures err { (r : ClockRun) (rows : List (List Bool)) → r.held ≡ S.held shelf.old feed.old.name → FeedGives r feed.old rows → given ≡ length rows → given < r.rows
-        → IfErr result (IsCause r rows (Rose (S.faults shelf.old feed.old.name) (S.faults shelf.new feed.old.name)) ⊥) }
+        → IfErr result (IsRunCause r rows (Rose (S.faults shelf.old feed.old.name) (S.faults shelf.new feed.old.name)) ⊥) }
     ensures name { feed.new.name ≡ feed.old.name }
     ensures kept { S.held shelf.new ≡ S.held shelf.old }
     ensures grows { (q : List ℕ) → S.faults shelf.old q ≤ S.faults shelf.new q }
@@ -142,7 +142,7 @@ impl Running {
             → IfOk result (λ run. (given : List (List Bool)) × IsRunning r run given × FeedGives r feed.new given) }
         ensures made { IfOk result (λ run. run.made ≡ 0) }
         ensures err { (r : ClockRun) → r.system ≡ task.now.system.now → r.rows ≡ task.now.rows → r.held ≡ S.held shelf.old feed.old.name → FeedGives r feed.old []
-            → IfErr result (IsCause r [] (Rose (S.faults shelf.old feed.old.name) (S.faults shelf.new feed.old.name)) ⊥) }
+            → IfErr result (IsRunCause r [] (Rose (S.faults shelf.old feed.old.name) (S.faults shelf.new feed.old.name)) ⊥) }
         ensures name { feed.new.name ≡ feed.old.name }
         ensures kept { S.held shelf.new ≡ S.held shelf.old }
         ensures grows { (q : List ℕ) → S.faults shelf.old q ≤ S.faults shelf.new q }
@@ -164,7 +164,7 @@ impl Running {
             → OnOk result (IsFedOn r given self.new feed.new) }
         ensures made { OnOk result (self.new.made ≡ self.old.made) }
         ensures err { (r : ClockRun) (given : List (List Bool)) → IsFed r (S.held shelf.old feed.old.name) self.old feed.old given
-            → IfErr result (IsCause r given (Rose (S.faults shelf.old feed.old.name) (S.faults shelf.new feed.old.name)) ⊥) }
+            → IfErr result (IsRunCause r given (Rose (S.faults shelf.old feed.old.name) (S.faults shelf.new feed.old.name)) ⊥) }
         ensures name { feed.new.name ≡ feed.old.name }
         ensures kept { S.held shelf.new ≡ S.held shelf.old }
         ensures grows { (q : List ℕ) → S.faults shelf.old q ≤ S.faults shelf.new q }
@@ -227,7 +227,7 @@ impl Running {
         ensures ok { (r : ClockRun) (given : List (List Bool)) → IsFed r (S.held shelf.old feed.old.name) self.old feed.old given → HasNotEnded r self.old given
             → OnOk result (HasMadeCycle r given self.old.made self.new feed.new) }
         ensures err { (r : ClockRun) (given : List (List Bool)) → IsFed r (S.held shelf.old feed.old.name) self.old feed.old given → HasNotEnded r self.old given
-            → IfErr result (IsCause r given (Rose (S.faults shelf.old feed.old.name) (S.faults shelf.new feed.old.name)) ⊥) }
+            → IfErr result (IsRunCause r given (Rose (S.faults shelf.old feed.old.name) (S.faults shelf.new feed.old.name)) ⊥) }
         ensures name { feed.new.name ≡ feed.old.name }
         ensures kept { S.held shelf.new ≡ S.held shelf.old }
         ensures grows { (q : List ℕ) → S.faults shelf.old q ≤ S.faults shelf.new q }

@@ -11,13 +11,13 @@ use Rattle.lid_top_refusals.specs.declared.refusal.Refusal.TheVariants.{Emit}
 use Rattle.lid_top_refusals.specs.Refusals.{refusal_line}
 use Rattle.lid_top_script.specs.Causes.{stop_of_emit, IsCause}
 use Rattle.lid_top_script.specs.Outputs.{emitted}
-use Rattle.lid_top_script.specs.Scripts.{Ending, refuses, gives, end, step, emit_good, emit_read, wrapping_script, EndsIn}
+use Rattle.lid_top_script.specs.Scripts.{Ending, refuses, gives, end, read_then, emit_good, emit_read, wrapping_script, EndsIn}
 use Rattle.lid_top_script.specs.Statuses.{HasText}
 
 module _ (held : List ℕ → Option (List ℕ)) (d : Design) (l : Links) (p : Placement) where
   -- by the judgement of names and size
   abbrev Ends : Option EmitFault → Ending → Type 0
-  Ends fault ending = EndsIn held (step (emit_good fault) (λ _. end (gives (emitted d l p)))) ending
+  Ends fault ending = EndsIn held (read_then (emit_good fault) (λ _. end (gives (emitted d l p)))) ending
 
   -- a design is emitted
   pub emit_has_text : (e : Design) (text : List ℕ) → emit_fault d l p ≡ None → IsEmitted d l p e → text ≡ canonical_text e → HasText held (wrapping_script d l p) text

@@ -7,13 +7,13 @@ use Rattle.lid_top_refusals.specs.declared.refusal.Refusal.TheVariants.{Gen}
 use Rattle.lid_top_refusals.specs.Refusals.{refusal_line}
 use Rattle.lid_top_script.specs.Causes.{stop_of_gen, IsCause}
 use Rattle.lid_top_script.specs.Outputs.{IsTextOf}
-use Rattle.lid_top_script.specs.Scripts.{Ending, refuses, gives, end, step, size_good, size_read, generating, gen_script, EndsIn}
+use Rattle.lid_top_script.specs.Scripts.{Ending, refuses, gives, end, read_then, size_good, size_read, generating, gen_script, EndsIn}
 use Rattle.lid_top_script.specs.Statuses.{HasText}
 
 module _ (held : List ℕ → Option (List ℕ)) (seed shells : ℕ) (run : Option ℕ) where
   -- by the judgement of the size
   abbrev Ends : Option GenFault → Ending → Type 0
-  Ends fault ending = EndsIn held (step (size_good fault) (λ _. end (gives (generating seed shells run)))) ending
+  Ends fault ending = EndsIn held (read_then (size_good fault) (λ _. end (gives (generating seed shells run)))) ending
 
   -- the size is good
   pub gen_has_text : (text : List ℕ) → size_fault shells ≡ None → IsTextOf (generating seed shells run) text → HasText held (gen_script seed shells run) text

@@ -6,7 +6,7 @@ use Rattle.lid_stations.specs.Placements.{Links}
 use Rattle.lid_top_script.specs.declared.fault.Stop.{Stop}
 use Rattle.lid_top_script.specs.Outputs.{waved}
 use Rattle.lid_top_script.specs.Waved.{IsWaveText}
-use Rattle.lid_top_script.specs.Scripts.{Script, Reading, good, step, end, gives, trace_read, waving_script, EndsIn}
+use Rattle.lid_top_script.specs.Scripts.{Script, Reading, good, read_then, end, gives, trace_read, waving_script, EndsIn}
 use Rattle.lid_top_script.specs.Causes.{Declines, IsCause}
 use Rattle.lid_top_script.specs.Statuses.{HasText}
 use Rattle.lid_top_script.proofs.Composition.{cause_declined}
@@ -19,7 +19,7 @@ module _ (d : Design) (l : Links) (p : Placement) (cycles : ℕ) (rows : List (L
   unfolding waving_script
   has_dump text judged is = record {
     output = waved d l p rows cycles;
-    ends = subst (λ (r : Reading (Unit {0})). EndsIn held (step r next) (gives (waved d l p rows cycles))) (sym judged) refl;
+    ends = subst (λ (r : Reading (Unit {0})). EndsIn held (read_then r next) (gives (waved d l p rows cycles))) (sym judged) refl;
     text_of = is;
   }
 

@@ -4,7 +4,7 @@ use Rattle.lid_base.specs.Outside.{Rose}
 use Rattle.lid_design.specs.declared.Design.{Design}
 use Rattle.lid_top_script.specs.declared.fault.Stop.{Stop}
 use Rattle.lid_top_script.specs.declared.fault.Stop.TheVariants.{Refused, Read, Memory, Denied}
-use Rattle.lid_top_script.specs.Scripts.{refuses, Script, decide, Reading, step, read_step, check_step, IsFetched, IsChecked, IsUnchecked, EndsIn}
+use Rattle.lid_top_script.specs.Scripts.{refuses, Script, decide, Reading, read_then, read_step, check_step, IsFetched, IsChecked, IsUnchecked, EndsIn}
 use Rattle.lid_top_refusals.specs.Refusals.{refusal_line}
 use Rattle.lid_top_script.specs.Causes.{Refuses, Declines, FailsCheck, IsWant, Misses, IsCause}
 
@@ -23,7 +23,7 @@ module _ {A : Type 0} (held : List ℕ → Option (List ℕ)) (name : List ℕ) 
   module _ (next : A → Script) where
     pub cause_here : (before after : List ℕ → ℕ) (stop : Stop) → Misses held name limit read before after stop → IsCause held (read_step name limit read next) before after stop
     cause_here before after (Refused refusal) m =
-        (m.bytes, m.fetched, subst (λ r. EndsIn held (step r next) (refuses (refusal_line refusal))) (sym m.refused) refl)
+        (m.bytes, m.fetched, subst (λ r. EndsIn held (read_then r next) (refuses (refusal_line refusal))) (sym m.refused) refl)
     cause_here before after (Read file) m = (inl (sym m.0), subst (λ n. Rose (before n) (after n)) (sym m.0) m.1)
     cause_here before after Memory m = tt
     cause_here before after Denied m = absurd m
@@ -37,8 +37,8 @@ module _ {A : Type 0} (held : List ℕ → Option (List ℕ)) (Good : A → Type
   cause_undecided before after Denied b = absurd b
 
 -- a reading decides the step
-pub cause_declined : {A : Type 0} (held : List ℕ → Option (List ℕ)) (reading : Reading A) (next : A → Script) (before after : List ℕ → ℕ) (stop : Stop) → Declines reading stop → IsCause held (step reading next) before after stop
-cause_declined held reading next before after (Refused refusal) d = subst (λ r. EndsIn held (step r next) (refuses (refusal_line refusal))) (sym d) refl
+pub cause_declined : {A : Type 0} (held : List ℕ → Option (List ℕ)) (reading : Reading A) (next : A → Script) (before after : List ℕ → ℕ) (stop : Stop) → Declines reading stop → IsCause held (read_then reading next) before after stop
+cause_declined held reading next before after (Refused refusal) d = subst (λ r. EndsIn held (read_then r next) (refuses (refusal_line refusal))) (sym d) refl
 cause_declined held reading next before after (Read file) d = absurd d
 cause_declined held reading next before after Memory d = tt
 cause_declined held reading next before after Denied d = absurd d

@@ -15,7 +15,7 @@ use Rattle.lid_top_script.specs.declared.fault.Stop.TheVariants.{Refused, Read, 
 use Rattle.lid_top_script.specs.declared.fault.JobEnd.{JobEnd}
 use Rattle.lid_top_script.specs.declared.fault.JobEnd.TheVariants.{Stopped, Unwritten}
 use Rattle.lid_top_script.specs.Outputs.{Output, IsTextOf}
-use Rattle.lid_top_script.specs.Scripts.{Ending, refuses, denies, gives, Script, decide, end as ended, Reading, good, step, read_step, net_limit, net_reading, check_step, net_step, system_step, wrapped_step, IsChecked, IsUnchecked, HasChannels, IsOverfull, links, text_limit, stations_read, placement_step, stalls_read, stalls_step, EndsIn, ReachesFetch}
+use Rattle.lid_top_script.specs.Scripts.{Ending, refuses, denies, gives, Script, decide, end as ended, Reading, good, read_then, read_step, net_limit, net_reading, check_step, net_step, system_step, wrapped_step, IsChecked, IsUnchecked, HasChannels, IsOverfull, links, text_limit, stations_read, placement_step, stalls_read, stalls_step, EndsIn, ReachesFetch}
 use Rattle.lid_top_script.specs.Wrapped.{Building, Wrapping}
 use Rattle.lid_top_script.specs.Causes.{Got, GotSystem, GotPlacement, GotWrapped, GotStalls, IsCause, IsJobEnd, IsWant}
 use Rattle.lid_top_script.specs.Statuses.{HasText, Writes, WritesPrefix, TellsAll, Leaves}
@@ -33,15 +33,15 @@ within_same = record { ends = λ ending e. e; reaches = λ file r. r }
 -- a file was fetched and read
 pub within_read : {A : Type 0} (held : List ℕ → Option (List ℕ)) (name : List ℕ) (limit : ℕ) (read : List ℕ → Reading A) (next : A → Script) (a : A) → Got held name limit read a → Within held (next a) (read_step name limit read next)
 within_read held name limit read next a g = record {
-  ends = λ ending e. (g.bytes, g.fetched, subst (λ r. EndsIn held (step r next) ending) (sym g.stands) e);
-  reaches = λ file r. inr (g.bytes, g.fetched, subst (λ r. ReachesFetch held (step r next) file) (sym g.stands) r);
+  ends = λ ending e. (g.bytes, g.fetched, subst (λ r. EndsIn held (read_then r next) ending) (sym g.stands) e);
+  reaches = λ file r. inr (g.bytes, g.fetched, subst (λ r. ReachesFetch held (read_then r next) file) (sym g.stands) r);
 }
 
 -- a reading decided the step
-pub within_step : {A : Type 0} (held : List ℕ → Option (List ℕ)) (reading : Reading A) (next : A → Script) (a : A) → reading ≡ good a → Within held (next a) (step reading next)
+pub within_step : {A : Type 0} (held : List ℕ → Option (List ℕ)) (reading : Reading A) (next : A → Script) (a : A) → reading ≡ good a → Within held (next a) (read_then reading next)
 within_step held reading next a is = record {
-  ends = λ ending e. subst (λ r. EndsIn held (step r next) ending) (sym is) e;
-  reaches = λ file e. subst (λ r. ReachesFetch held (step r next) file) (sym is) e;
+  ends = λ ending e. subst (λ r. EndsIn held (read_then r next) ending) (sym is) e;
+  reaches = λ file e. subst (λ r. ReachesFetch held (read_then r next) file) (sym is) e;
 }
 
 -- a value met the first relation

@@ -78,13 +78,13 @@ pub data Script : Type 1 where
   end : Ending → Script
 
 -- a reading decides the step
-abbrev pub step : {A : Type 0} → Reading A → (A → Script) → Script
-step (good a) next = next a
-step (bad line) next = end (refuses line)
+abbrev pub read_then : {A : Type 0} → Reading A → (A → Script) → Script
+read_then (good a) next = next a
+read_then (bad line) next = end (refuses line)
 
 -- fetches a file and reads it
 abbrev pub read_step : {A : Type 0} → List ℕ → ℕ → (List ℕ → Reading A) → (A → Script) → Script
-read_step name limit read next = fetch name limit (λ bytes. step (read bytes) next)
+read_step name limit read next = fetch name limit (λ bytes. read_then (read bytes) next)
 
 abbrev pub net_limit : ℕ
 net_limit = 16777216
@@ -300,7 +300,7 @@ rerun_script d l p vec stalls trace rows = again (reread_rows d vec rows) (λ re
 
 -- the trace is judged, and then it runs
 unfoldable pub traced_script : Design → Links → Placement → List ℕ → Option (List Stall) → Option ℕ → List (List Bool) → Script
-traced_script d l p vec stalls trace rows = step (trace_read p trace) (λ _. rerun_script d l p vec stalls trace rows)
+traced_script d l p vec stalls trace rows = read_then (trace_read p trace) (λ _. rerun_script d l p vec stalls trace rows)
 
 -- `clock` of a system with such a placement and such stalls: the rows are fetched and read
 unfoldable pub vec_script : Design → Links → Placement → List ℕ → Option (List Stall) → Option ℕ → Script
@@ -349,7 +349,7 @@ free_script net vec stations workers rounds tally root = held_step net vec stati
 
 -- `wave` of a system with such a placement whose rows were read: the trace is judged
 unfoldable pub waving_script : Design → Links → Placement → ℕ → List (List Bool) → Script
-waving_script d l p cycles rows = step (trace_read p (Some cycles)) (λ _. end (gives (waved d l p rows cycles)))
+waving_script d l p cycles rows = read_then (trace_read p (Some cycles)) (λ _. end (gives (waved d l p rows cycles)))
 
 -- `wave`: the steps of `clock`, with the rows held
 unfoldable pub wave_script : List ℕ → List ℕ → Option (List ℕ) → ℕ → Option (List ℕ) → Script
@@ -381,7 +381,7 @@ emit_read d l p = emit_good (emit_fault d l p)
 
 -- `emit` of a system with such a placement
 unfoldable pub wrapping_script : Design → Links → Placement → Script
-wrapping_script d l p = step (emit_read d l p) (λ _. end (gives (emitted d l p)))
+wrapping_script d l p = read_then (emit_read d l p) (λ _. end (gives (emitted d l p)))
 
 -- `emit`: the netlist is read and checked, and its system built, then the stations are read
 unfoldable pub emit_script : List ℕ → Option (List ℕ) → Option (List ℕ) → Script
@@ -402,7 +402,7 @@ generating seed shells (Some rows) = run_of_seed seed shells rows
 
 -- `gen`: the size is judged, and then it runs
 unfoldable pub gen_script : ℕ → ℕ → Option ℕ → Script
-gen_script seed shells run = step (size_read shells) (λ _. end (gives (generating seed shells run)))
+gen_script seed shells run = read_then (size_read shells) (λ _. end (gives (generating seed shells run)))
 
 -- the steps of a job
 abbrev pub script_of : Job → Script

@@ -12,8 +12,8 @@ use Rattle.lid_vcd_form.specs.declared.form.Section.TheVariants.{Timescale, Scop
 use Rattle.lid_vcd_form.specs.declared.form.Next.{Next}
 use Rattle.lid_vcd_form.specs.declared.form.Next.TheVariants.{Before, Note, Inside, Time, Set, Bits}
 use Rattle.lid_vcd_form.specs.declared.form.Place.{Place}
-use Rattle.lid_vcd_form.specs.Ids.{variable_of, token_of, id_of, width_of, ending_of}
-use Rattle.lid_vcd_form.specs.Form.{place, start, step, run, is_time, is_end, is_note, is_name, only, begins_variable, begins, before_section, in_note, in_timescale, in_scope, in_variable, in_section, going_on, later, bit_set, token_read, token_set, change, in_body}
+use Rattle.lid_vcd_form.specs.Ids.{variable_of, token_in_bits, id_of, width_of, ending_of}
+use Rattle.lid_vcd_form.specs.Form.{new_place, start, step, read_words, is_time, is_end, is_note, is_name, only, begins_variable, begins, before_section, in_note, in_timescale, in_scope, in_variable, in_section, going_on, later, bit_set, token_read, token_set, change, in_body}
 use Rattle.lid_vcd_form.specs.Words.{placed_words}
 use Rattle.lid_vcd_form.specs.Shows.{Wave, trace_at, trace_of, wave_of}
 use Rattle.lid_vcd.specs.Laws.{place_after}
@@ -66,41 +66,41 @@ by_word p r word so e rest = record {
   time = rest.time;
 }
 
-at_time_ends : (n at : ℕ) → CanEnd (place n (Time at))
-at_time_ends n at = record { more = []; end = place n (Time at); words = tt; leads = λ line. refl; time = refl }
+at_time_ends : (n at : ℕ) → CanEnd (new_place n (Time at))
+at_time_ends n at = record { more = []; end = new_place n (Time at); words = tt; leads = λ line. refl; time = refl }
 
-body_ends : (n : ℕ) → CanEnd (place n (Before Body))
-body_ends n = by_word (place n (Before Body)) (place n (Time 0)) (codes "#0") first_time_word (first_time n) (at_time_ends n 0)
+body_ends : (n : ℕ) → CanEnd (new_place n (Before Body))
+body_ends n = by_word (new_place n (Before Body)) (new_place n (Time 0)) (codes "#0") first_time_word (first_time n) (at_time_ends n 0)
 
-in_definitions_ends : (n i : ℕ) → CanEnd (place n (Inside Definitions i))
+in_definitions_ends : (n i : ℕ) → CanEnd (new_place n (Inside Definitions i))
 unfolding step
-in_definitions_ends n i = by_word (place n (Inside Definitions i)) (place n (Before Body)) (codes "$end") end_word refl (body_ends n)
+in_definitions_ends n i = by_word (new_place n (Inside Definitions i)) (new_place n (Before Body)) (codes "$end") end_word refl (body_ends n)
 
-definitions_ends : (n : ℕ) → CanEnd (place n (Before Definitions))
-definitions_ends n = by_word (place n (Before Definitions)) (place n (Inside Definitions 1)) (codes "$enddefinitions") definitions_word (closing_2 n) (in_definitions_ends n 1)
+definitions_ends : (n : ℕ) → CanEnd (new_place n (Before Definitions))
+definitions_ends n = by_word (new_place n (Before Definitions)) (new_place n (Inside Definitions 1)) (codes "$enddefinitions") definitions_word (closing_2 n) (in_definitions_ends n 1)
 
-in_upscope_ends : (n i : ℕ) → CanEnd (place n (Inside Upscope i))
+in_upscope_ends : (n i : ℕ) → CanEnd (new_place n (Inside Upscope i))
 unfolding step
-in_upscope_ends n i = by_word (place n (Inside Upscope i)) (place n (Before Definitions)) (codes "$end") end_word refl (definitions_ends n)
+in_upscope_ends n i = by_word (new_place n (Inside Upscope i)) (new_place n (Before Definitions)) (codes "$end") end_word refl (definitions_ends n)
 
-upscope_ends : (n : ℕ) → CanEnd (place n (Before Upscope))
+upscope_ends : (n : ℕ) → CanEnd (new_place n (Before Upscope))
 unfolding step begins
-upscope_ends n = by_word (place n (Before Upscope)) (place n (Inside Upscope 1)) (codes "$upscope") upscope_word refl (in_upscope_ends n 1)
+upscope_ends n = by_word (new_place n (Before Upscope)) (new_place n (Inside Upscope 1)) (codes "$upscope") upscope_word refl (in_upscope_ends n 1)
 
-whole_ends : (n : ℕ) → n % 3 ≡ 0 → CanEnd (place n (Before Variable))
-whole_ends n whole = by_word (place n (Before Variable)) (place n (Inside Upscope 1)) (codes "$upscope") upscope_word (closing_0 n (eq-eqb (n % 3) 0 whole)) (in_upscope_ends n 1)
+whole_ends : (n : ℕ) → n % 3 ≡ 0 → CanEnd (new_place n (Before Variable))
+whole_ends n whole = by_word (new_place n (Before Variable)) (new_place n (Inside Upscope 1)) (codes "$upscope") upscope_word (closing_0 n (eq-eqb (n % 3) 0 whole)) (in_upscope_ends n 1)
 
 -- one more declaration
-declare : (n : ℕ) → n < 196608 → CanEnd (place (n + 1) (Before Variable)) → CanEnd (place n (Before Variable))
+declare : (n : ℕ) → n < 196608 → CanEnd (new_place (n + 1) (Before Variable)) → CanEnd (new_place n (Before Variable))
 declare n small rest =
-    by_word (place n (Before Variable)) (place (n + 1) (Inside Variable 1)) (codes "$var") var_word (word_0 n small)
-    (by_word (place (n + 1) (Inside Variable 1)) (place (n + 1) (Inside Variable 2)) (codes "wire") wire_word (word_1 (n + 1))
-    (by_word (place (n + 1) (Inside Variable 2)) (place (n + 1) (Inside Variable 3)) (width_of n) (width_word n) (word_2 n)
-    (by_word (place (n + 1) (Inside Variable 3)) (place (n + 1) (Inside Variable 4)) (id_of n) (id_word n) (word_3 n)
-    (by_word (place (n + 1) (Inside Variable 4)) (place (n + 1) (Inside Variable 5)) (codes "s" ++ decimal (n / 3) ++ ending_of n) (name_word n (omega arith)) (word_4 n small)
-    (by_word (place (n + 1) (Inside Variable 5)) (place (n + 1) (Before Variable)) (codes "$end") end_word (word_5 (n + 1)) rest)))))
+    by_word (new_place n (Before Variable)) (new_place (n + 1) (Inside Variable 1)) (codes "$var") var_word (word_0 n small)
+    (by_word (new_place (n + 1) (Inside Variable 1)) (new_place (n + 1) (Inside Variable 2)) (codes "wire") wire_word (word_1 (n + 1))
+    (by_word (new_place (n + 1) (Inside Variable 2)) (new_place (n + 1) (Inside Variable 3)) (width_of n) (width_word n) (word_2 n)
+    (by_word (new_place (n + 1) (Inside Variable 3)) (new_place (n + 1) (Inside Variable 4)) (id_of n) (id_word n) (word_3 n)
+    (by_word (new_place (n + 1) (Inside Variable 4)) (new_place (n + 1) (Inside Variable 5)) (codes "s" ++ decimal (n / 3) ++ ending_of n) (name_word n (omega arith)) (word_4 n small)
+    (by_word (new_place (n + 1) (Inside Variable 5)) (new_place (n + 1) (Before Variable)) (codes "$end") end_word (word_5 (n + 1)) rest)))))
 
-variable_ends : (n : ℕ) → n ≤ 196608 → CanEnd (place n (Before Variable))
+variable_ends : (n : ℕ) → n ≤ 196608 → CanEnd (new_place n (Before Variable))
 variable_ends n few =
     elim (cases_lt (n % 3) 1) [
       | inl none ↦ whole_ends n (omega arith)
@@ -111,69 +111,69 @@ variable_ends n few =
     ]
 
 -- within a declaration
-in_variable_ends : (n i : ℕ) → n ≤ 196608 → CanEnd (place n (Inside Variable i))
+in_variable_ends : (n i : ℕ) → n ≤ 196608 → CanEnd (new_place n (Inside Variable i))
 unfolding step in_variable
 in_variable_ends n i few = by (i == 1) refl (i == 2) refl (i == 3) refl (i == 4) refl
   where
-    last : (j : ℕ) → (j == 1) ≡ false → (j == 2) ≡ false → (j == 3) ≡ false → (j == 4) ≡ false → CanEnd (place n (Inside Variable j))
-    last j a b c d = by_word (place n (Inside Variable j)) (place n (Before Variable)) (codes "$end") end_word (cond-false (j == 1) _ _ a ∙ cond-false (j == 2) _ _ b ∙ cond-false (j == 3) _ _ c ∙ cond-false (j == 4) _ _ d) (variable_ends n few)
+    last : (j : ℕ) → (j == 1) ≡ false → (j == 2) ≡ false → (j == 3) ≡ false → (j == 4) ≡ false → CanEnd (new_place n (Inside Variable j))
+    last j a b c d = by_word (new_place n (Inside Variable j)) (new_place n (Before Variable)) (codes "$end") end_word (cond-false (j == 1) _ _ a ∙ cond-false (j == 2) _ _ b ∙ cond-false (j == 3) _ _ c ∙ cond-false (j == 4) _ _ d) (variable_ends n few)
 
-    fourth : CanEnd (place n (Inside Variable 4))
-    fourth = by_word (place n (Inside Variable 4)) (place n (Inside Variable 5)) (codes "s" ++ decimal ((n - 1) / 3) ++ ending_of (n - 1)) (name_word (n - 1) (omega arith)) (only_true (is_name (n - 1) (codes "s" ++ decimal ((n - 1) / 3) ++ ending_of (n - 1))) n (Inside Variable 5) (name_is (n - 1) (omega arith))) (last 5 refl refl refl refl)
+    fourth : CanEnd (new_place n (Inside Variable 4))
+    fourth = by_word (new_place n (Inside Variable 4)) (new_place n (Inside Variable 5)) (codes "s" ++ decimal ((n - 1) / 3) ++ ending_of (n - 1)) (name_word (n - 1) (omega arith)) (only_true (is_name (n - 1) (codes "s" ++ decimal ((n - 1) / 3) ++ ending_of (n - 1))) n (Inside Variable 5) (name_is (n - 1) (omega arith))) (last 5 refl refl refl refl)
 
-    third : CanEnd (place n (Inside Variable 3))
-    third = by_word (place n (Inside Variable 3)) (place n (Inside Variable 4)) (id_of (n - 1)) (id_word (n - 1)) (only_true (bytes_eq (id_of (n - 1)) (id_of (n - 1))) n (Inside Variable 4) (same_word (id_of (n - 1)))) fourth
+    third : CanEnd (new_place n (Inside Variable 3))
+    third = by_word (new_place n (Inside Variable 3)) (new_place n (Inside Variable 4)) (id_of (n - 1)) (id_word (n - 1)) (only_true (bytes_eq (id_of (n - 1)) (id_of (n - 1))) n (Inside Variable 4) (same_word (id_of (n - 1)))) fourth
 
-    second : CanEnd (place n (Inside Variable 2))
-    second = by_word (place n (Inside Variable 2)) (place n (Inside Variable 3)) (width_of (n - 1)) (width_word (n - 1)) (only_true (bytes_eq (width_of (n - 1)) (width_of (n - 1))) n (Inside Variable 3) (same_word (width_of (n - 1)))) third
+    second : CanEnd (new_place n (Inside Variable 2))
+    second = by_word (new_place n (Inside Variable 2)) (new_place n (Inside Variable 3)) (width_of (n - 1)) (width_word (n - 1)) (only_true (bytes_eq (width_of (n - 1)) (width_of (n - 1))) n (Inside Variable 3) (same_word (width_of (n - 1)))) third
 
-    first : CanEnd (place n (Inside Variable 1))
-    first = by_word (place n (Inside Variable 1)) (place n (Inside Variable 2)) (codes "wire") wire_word refl second
+    first : CanEnd (new_place n (Inside Variable 1))
+    first = by_word (new_place n (Inside Variable 1)) (new_place n (Inside Variable 2)) (codes "wire") wire_word refl second
 
-    at : (k : ℕ) → (i == k) ≡ true → CanEnd (place n (Inside Variable k)) → CanEnd (place n (Inside Variable i))
-    at k e so = subst (λ (j : ℕ). CanEnd (place n (Inside Variable j))) (sym (eqb-true i k e)) so
+    at : (k : ℕ) → (i == k) ≡ true → CanEnd (new_place n (Inside Variable k)) → CanEnd (new_place n (Inside Variable i))
+    at k e so = subst (λ (j : ℕ). CanEnd (new_place n (Inside Variable j))) (sym (eqb-true i k e)) so
 
-    by : (a : Bool) → (i == 1) ≡ a → (b : Bool) → (i == 2) ≡ b → (c : Bool) → (i == 3) ≡ c → (d : Bool) → (i == 4) ≡ d → CanEnd (place n (Inside Variable i))
+    by : (a : Bool) → (i == 1) ≡ a → (b : Bool) → (i == 2) ≡ b → (c : Bool) → (i == 3) ≡ c → (d : Bool) → (i == 4) ≡ d → CanEnd (new_place n (Inside Variable i))
     by true e b f c g d h = at 1 e first
     by false e true f c g d h = at 2 f second
     by false e false f true g d h = at 3 g third
     by false e false f false g true h = at 4 h fourth
     by false e false f false g false h = last i e f g h
 
-scope_word_ends : (n i : ℕ) → n ≤ 196608 → CanEnd (place n (Inside Scope i))
+scope_word_ends : (n i : ℕ) → n ≤ 196608 → CanEnd (new_place n (Inside Scope i))
 unfolding step in_scope
 scope_word_ends n i few = by (i == 1) refl (i == 2) refl
   where
-    last : (j : ℕ) → (j == 1) ≡ false → (j == 2) ≡ false → CanEnd (place n (Inside Scope j))
-    last j a b = by_word (place n (Inside Scope j)) (place n (Before Variable)) (codes "$end") end_word (cond-false (j == 1) _ _ a ∙ cond-false (j == 2) _ _ b) (variable_ends n few)
+    last : (j : ℕ) → (j == 1) ≡ false → (j == 2) ≡ false → CanEnd (new_place n (Inside Scope j))
+    last j a b = by_word (new_place n (Inside Scope j)) (new_place n (Before Variable)) (codes "$end") end_word (cond-false (j == 1) _ _ a ∙ cond-false (j == 2) _ _ b) (variable_ends n few)
 
-    second : CanEnd (place n (Inside Scope 2))
-    second = by_word (place n (Inside Scope 2)) (place n (Inside Scope 3)) (codes "lid") lid_word refl (last 3 refl refl)
+    second : CanEnd (new_place n (Inside Scope 2))
+    second = by_word (new_place n (Inside Scope 2)) (new_place n (Inside Scope 3)) (codes "lid") lid_word refl (last 3 refl refl)
 
-    first : CanEnd (place n (Inside Scope 1))
-    first = by_word (place n (Inside Scope 1)) (place n (Inside Scope 2)) (codes "module") module_word refl second
+    first : CanEnd (new_place n (Inside Scope 1))
+    first = by_word (new_place n (Inside Scope 1)) (new_place n (Inside Scope 2)) (codes "module") module_word refl second
 
-    at : (k : ℕ) → (i == k) ≡ true → CanEnd (place n (Inside Scope k)) → CanEnd (place n (Inside Scope i))
-    at k e so = subst (λ (j : ℕ). CanEnd (place n (Inside Scope j))) (sym (eqb-true i k e)) so
+    at : (k : ℕ) → (i == k) ≡ true → CanEnd (new_place n (Inside Scope k)) → CanEnd (new_place n (Inside Scope i))
+    at k e so = subst (λ (j : ℕ). CanEnd (new_place n (Inside Scope j))) (sym (eqb-true i k e)) so
 
-    by : (a : Bool) → (i == 1) ≡ a → (b : Bool) → (i == 2) ≡ b → CanEnd (place n (Inside Scope i))
+    by : (a : Bool) → (i == 1) ≡ a → (b : Bool) → (i == 2) ≡ b → CanEnd (new_place n (Inside Scope i))
     by true e b f = at 1 e first
     by false e true f = at 2 f second
     by false e false f = last i e f
 
-scope_ends : (n : ℕ) → n ≤ 196608 → CanEnd (place n (Before Scope))
+scope_ends : (n : ℕ) → n ≤ 196608 → CanEnd (new_place n (Before Scope))
 unfolding step begins
-scope_ends n few = by_word (place n (Before Scope)) (place n (Inside Scope 1)) (codes "$scope") scope_word refl (scope_word_ends n 1 few)
+scope_ends n few = by_word (new_place n (Before Scope)) (new_place n (Inside Scope 1)) (codes "$scope") scope_word refl (scope_word_ends n 1 few)
 
-in_timescale_ends : (n i : ℕ) → n ≤ 196608 → CanEnd (place n (Inside Timescale i))
+in_timescale_ends : (n i : ℕ) → n ≤ 196608 → CanEnd (new_place n (Inside Timescale i))
 unfolding step
-in_timescale_ends n i few = by_word (place n (Inside Timescale i)) (place n (Before Scope)) (codes "$end") end_word refl (scope_ends n few)
+in_timescale_ends n i few = by_word (new_place n (Inside Timescale i)) (new_place n (Before Scope)) (codes "$end") end_word refl (scope_ends n few)
 
-timescale_ends : (n : ℕ) → n ≤ 196608 → CanEnd (place n (Before Timescale))
+timescale_ends : (n : ℕ) → n ≤ 196608 → CanEnd (new_place n (Before Timescale))
 unfolding step begins
-timescale_ends n few = by_word (place n (Before Timescale)) (place n (Inside Timescale 1)) (codes "$timescale") timescale_word refl (in_timescale_ends n 1 few)
+timescale_ends n few = by_word (new_place n (Before Timescale)) (new_place n (Inside Timescale 1)) (codes "$timescale") timescale_word refl (in_timescale_ends n 1 few)
 
-before_ends : (n : ℕ) (section : Section) → n ≤ 196608 → CanEnd (place n (Before section))
+before_ends : (n : ℕ) (section : Section) → n ≤ 196608 → CanEnd (new_place n (Before section))
 before_ends n Timescale few = timescale_ends n few
 before_ends n Scope few = scope_ends n few
 before_ends n Variable few = variable_ends n few
@@ -181,11 +181,11 @@ before_ends n Upscope few = upscope_ends n
 before_ends n Definitions few = definitions_ends n
 before_ends n Body few = body_ends n
 
-note_ends : (n : ℕ) (section : Section) → n ≤ 196608 → CanEnd (place n (Note section))
+note_ends : (n : ℕ) (section : Section) → n ≤ 196608 → CanEnd (new_place n (Note section))
 unfolding step
-note_ends n section few = by_word (place n (Note section)) (place n (Before section)) (codes "$end") end_word refl (before_ends n section few)
+note_ends n section few = by_word (new_place n (Note section)) (new_place n (Before section)) (codes "$end") end_word refl (before_ends n section few)
 
-inside_ends : (n : ℕ) (section : Section) (i : ℕ) → n ≤ 196608 → InsideIsAlive n section → CanEnd (place n (Inside section i))
+inside_ends : (n : ℕ) (section : Section) (i : ℕ) → n ≤ 196608 → InsideIsAlive n section → CanEnd (new_place n (Inside section i))
 inside_ends n Timescale i few alive = in_timescale_ends n i few
 inside_ends n Scope i few alive = scope_word_ends n i few
 inside_ends n Variable i few alive = in_variable_ends n i few
@@ -193,17 +193,17 @@ inside_ends n Upscope i few alive = in_upscope_ends n i
 inside_ends n Definitions i few alive = in_definitions_ends n i
 inside_ends n Body i few alive = absurd alive
 
-set_ends : (n at m value : ℕ) → at < 4294967295 → CanEnd (place n (Set at m value))
+set_ends : (n at m value : ℕ) → at < 4294967295 → CanEnd (new_place n (Set at m value))
 unfolding step
-set_ends n at m value early = by_word (place n (Set at m value)) (place n (Time (at + 1))) (35 ∷ decimal (at + 1)) (time_word (at + 1) (omega arith)) (time_told n at (at + 1) (omega arith) (omega arith)) (at_time_ends n (at + 1))
+set_ends n at m value early = by_word (new_place n (Set at m value)) (new_place n (Time (at + 1))) (35 ∷ decimal (at + 1)) (time_word (at + 1) (omega arith)) (time_told n at (at + 1) (omega arith) (omega arith)) (at_time_ends n (at + 1))
 
-bits_ends : (n at value : ℕ) → n % 3 ≡ 0 → 0 < n → at < 4294967295 → CanEnd (place n (Bits at value))
-bits_ends n at value whole some early = by_word (place n (Bits at value)) (place n (Set at 2 value)) (id_of 2) (id_word 2) (token_told n at 2 value (omega arith) (omega arith) refl) (set_ends n at 2 value early)
+bits_ends : (n at value : ℕ) → n % 3 ≡ 0 → 0 < n → at < 4294967295 → CanEnd (new_place n (Bits at value))
+bits_ends n at value whole some early = by_word (new_place n (Bits at value)) (new_place n (Set at 2 value)) (id_of 2) (id_word 2) (token_told n at 2 value (omega arith) (omega arith) refl) (set_ends n at 2 value early)
 
 alive_ends : (p : Place) → IsAlive p → CanEnd p
 alive_ends p so = by p.next so.next
   where
-    by : (next : Next) → NextIsAlive p.variables next → CanEnd (place p.variables next)
+    by : (next : Next) → NextIsAlive p.variables next → CanEnd (new_place p.variables next)
     by (Before section) alive = before_ends p.variables section so.few
     by (Note section) alive = note_ends p.variables section so.few
     by (Inside section i) alive = inside_ends p.variables section i so.few alive
@@ -212,7 +212,7 @@ alive_ends p so = by p.next so.next
     by (Bits at value) alive = bits_ends p.variables at value alive.0 alive.2 alive.1
 
 -- a word that is not refused keeps a place alive
-alive : (n : ℕ) (next : Next) → n ≤ 196608 → NextIsAlive n next → IsAlive (place n next)
+alive : (n : ℕ) (next : Next) → n ≤ 196608 → NextIsAlive n next → IsAlive (new_place n next)
 alive n next few so = record { few = few; next = so }
 
 begins_variable_alive : (n : ℕ) (word : List ℕ) → n ≤ 196608 → (q : Place) → begins_variable n word ≡ Some q → IsAlive q
@@ -233,19 +233,19 @@ begins_alive n Body word few so = only_gives IsAlive (bytes_eq word (codes "#0")
 
 before_alive : (n : ℕ) (section : Section) (word : List ℕ) → n ≤ 196608 → SectionIsAlive n section → (q : Place) → before_section n section word ≡ Some q → IsAlive q
 before_alive n section word few so =
-    cond_gives IsAlive (is_note word) (Some (place n (Note section))) (begins n section word) (λ _ q e. some_gives IsAlive (place n (Note section)) q (alive n (Note section) few so) e) (begins_alive n section word few so)
+    cond_gives IsAlive (is_note word) (Some (new_place n (Note section))) (begins n section word) (λ _ q e. some_gives IsAlive (new_place n (Note section)) q (alive n (Note section) few so) e) (begins_alive n section word few so)
 
 note_alive : (n : ℕ) (section : Section) (word : List ℕ) → n ≤ 196608 → SectionIsAlive n section → (q : Place) → in_note n section word ≡ Some q → IsAlive q
-note_alive n section word few so q e = some_gives IsAlive (place n (cond (is_end word) (Before section) (Note section))) q (by (is_end word)) e
+note_alive n section word few so q e = some_gives IsAlive (new_place n (cond (is_end word) (Before section) (Note section))) q (by (is_end word)) e
   where
-    by : (b : Bool) → IsAlive (place n (cond b (Before section) (Note section)))
+    by : (b : Bool) → IsAlive (new_place n (cond b (Before section) (Note section)))
     by true = alive n (Before section) few so
     by false = alive n (Note section) few so
 
 timescale_alive : (n : ℕ) (word : List ℕ) → n ≤ 196608 → (q : Place) → in_timescale n word ≡ Some q → IsAlive q
-timescale_alive n word few q e = some_gives IsAlive (place n (cond (is_end word) (Before Scope) (Inside Timescale 1))) q (by (is_end word)) e
+timescale_alive n word few q e = some_gives IsAlive (new_place n (cond (is_end word) (Before Scope) (Inside Timescale 1))) q (by (is_end word)) e
   where
-    by : (b : Bool) → IsAlive (place n (cond b (Before Scope) (Inside Timescale 1)))
+    by : (b : Bool) → IsAlive (new_place n (cond b (Before Scope) (Inside Timescale 1)))
     by true = alive n (Before Scope) few tt
     by false = alive n (Inside Timescale 1) few tt
 
@@ -297,14 +297,14 @@ body_alive n at (mark ∷ rest) few so =
     (cond_gives IsAlive (nat_lt at 4294967295) (change n at mark rest) None
     (λ h. let early = ltb-true at 4294967295 h in
     cond_gives IsAlive ((mark == 48) || (mark == 49)) _ _ (λ _. bit_alive n at (mark - 48) (variable_of n rest) few so early)
-    (cond_gives IsAlive (mark == 98) _ None (λ _. bits_alive n at (token_of rest) few so early) (λ q e. none_gives q e)))
+    (cond_gives IsAlive (mark == 98) _ None (λ _. bits_alive n at (token_in_bits rest) few so early) (λ q e. none_gives q e)))
     (λ q e. none_gives q e))
 
 step_alive : (p q : Place) (word : List ℕ) → IsAlive p → step p word ≡ Some q → IsAlive q
 unfolding step
 step_alive p q word so e = by p.next so.next e
   where
-    by : (next : Next) → NextIsAlive p.variables next → step (place p.variables next) word ≡ Some q → IsAlive q
+    by : (next : Next) → NextIsAlive p.variables next → step (new_place p.variables next) word ≡ Some q → IsAlive q
     by (Before section) alive f = before_alive p.variables section word so.few alive q f
     by (Note section) alive f = note_alive p.variables section word so.few alive q f
     by (Inside section i) alive f = section_alive p.variables section i word so.few alive q f
@@ -332,16 +332,16 @@ words_go_on bytes p e =
     let more = map (on_line line) end.more in
     let whole = bytes ++ 32 ∷ spaced end.more in
     let words : placed_words whole ≡ placed_words bytes ++ more = both_read 1 [] bytes (spaced end.more) ∙ ap (λ (ws : List (ℕ × List ℕ)). placed_words bytes ++ ws) (spaced_read line end.more end.words) in
-    let runs : run 0 start (placed_words bytes ++ more) ≡ Ok end.end = run_goes 0 start end.end (placed_words bytes ++ more) (after_both start p (placed_words bytes) more e ∙ end.leads line) end.time in
-    (spaced end.more, trace_at (placed_words whole) end.end, ap (trace_of (placed_words whole)) (ap (run 0 start) words ∙ runs))
+    let runs : read_words 0 start (placed_words bytes ++ more) ≡ Ok end.end = run_goes 0 start end.end (placed_words bytes ++ more) (after_both start p (placed_words bytes) more e ∙ end.leads line) end.time in
+    (spaced end.more, trace_at (placed_words whole) end.end, ap (trace_of (placed_words whole)) (ap (read_words 0 start) words ∙ runs))
 
 -- a refusal is told whatever follows
-pub words_stop : (words : List (ℕ × List ℕ)) (last : ℕ) (from p : Place) (word : ℕ × List ℕ) (more : List (ℕ × List ℕ)) → place_after from words ≡ Some p → step p word.1 ≡ None → run last from (words ++ word ∷ more) ≡ Err word.0
+pub words_stop : (words : List (ℕ × List ℕ)) (last : ℕ) (from p : Place) (word : ℕ × List ℕ) (more : List (ℕ × List ℕ)) → place_after from words ≡ Some p → step p word.1 ≡ None → read_words last from (words ++ word ∷ more) ≡ Err word.0
 words_stop [] last from p word more e h =
     let same : from ≡ p = (let f : Some from ≡ Some p = e in cc) in
-    ap (λ (r : Place). going_on word.0 (step r word.1) (λ q. run word.0 q more)) same ∙ ap (λ (o : Option Place). going_on word.0 o (λ q. run word.0 q more)) h
+    ap (λ (r : Place). going_on word.0 (step r word.1) (λ q. read_words word.0 q more)) same ∙ ap (λ (o : Option Place). going_on word.0 o (λ q. read_words word.0 q more)) h
 words_stop (first ∷ words) last from p word more e h = by (step from first.1) (λ r f. words_stop words first.0 r p word more f h) e
   where
-    by : (o : Option Place) → ((r : Place) → place_after r words ≡ Some p → run first.0 r (words ++ word ∷ more) ≡ Err word.0) → option_and_then (λ r. place_after r words) o ≡ Some p → going_on first.0 o (λ q. run first.0 q (words ++ word ∷ more)) ≡ Err word.0
+    by : (o : Option Place) → ((r : Place) → place_after r words ≡ Some p → read_words first.0 r (words ++ word ∷ more) ≡ Err word.0) → option_and_then (λ r. place_after r words) o ≡ Some p → going_on first.0 o (λ q. read_words first.0 q (words ++ word ∷ more)) ≡ Err word.0
     by None next f = absurd (let g : None ≡ Some p = f in cc)
     by (Some r) next f = next r f

@@ -9,8 +9,8 @@ use Rattle.lid_base.specs.declared.runs.Shown.{Shown}
 use Rattle.lid_base.proofs.Numbers.{number_back}
 use Rattle.lid_vcd_form.specs.declared.form.Next.{Next}
 use Rattle.lid_vcd_form.specs.declared.form.Next.TheVariants.{Time, Set, Bits}
-use Rattle.lid_vcd_form.specs.Ids.{id_of, id_value, variable_of, token_of, binary, binary_by, bits_on, is_bit, are_bits, is_token}
-use Rattle.lid_vcd_form.specs.Form.{place, step, in_body, later, bit_set, token_read, token_set, change}
+use Rattle.lid_vcd_form.specs.Ids.{id_of, id_value, variable_of, token_in_bits, binary, binary_by, bits_on, is_bit, are_bits, is_token}
+use Rattle.lid_vcd_form.specs.Form.{new_place, step, in_body, later, bit_set, token_read, token_set, change}
 use Rattle.lid_vcd_form.specs.Shows.{time_of, cycles_of}
 use Rattle.lid_vcd_form.specs.Text.{time_words, bit_words, token_words}
 use Rattle.lid_vcd.proofs.WrittenWords.{on_line}
@@ -82,8 +82,8 @@ digits_back (suc k) n h =
           subst (AreDigits (suc (suc k)) n) (sym e) (record { value = value; some = omega arith; few = (let f = front.few in omega arith); bits = last })
     ]
 
-pub token_back : (n : ℕ) → n < 2 ^ 31 → token_of (binary n) ≡ Some n
-unfolding token_of binary
+pub token_back : (n : ℕ) → n < 2 ^ 31 → token_in_bits (binary n) ≡ Some n
+unfolding token_in_bits binary
 token_back n h =
     let so = digits_back 30 n h in
     let bits = binary_by 31 n in
@@ -93,7 +93,7 @@ token_back n h =
 
 -- a place in the body, at this time
 pub record AtTime (variables at : ℕ) (next : Next) : Type 0 where
-  pub steps : (word : List ℕ) → step (place variables next) word ≡ in_body variables at word
+  pub steps : (word : List ℕ) → step (new_place variables next) word ≡ in_body variables at word
   pub time : time_of next ≡ at
 
 pub at_time : (variables at : ℕ) → AtTime variables at (Time at)
@@ -104,17 +104,17 @@ pub at_set : (variables at n value : ℕ) → AtTime variables at (Set at n valu
 unfolding step
 at_set variables at n value = record { steps = λ word. refl; time = refl }
 
-pub time_told : (variables at k : ℕ) → at < k → k < 4294967296 → in_body variables at (35 ∷ decimal k) ≡ Some (place variables (Time k))
+pub time_told : (variables at k : ℕ) → at < k → k < 4294967296 → in_body variables at (35 ∷ decimal k) ≡ Some (new_place variables (Time k))
 unfolding in_body
 time_told variables at k after small = ap (later variables at) (number_back 4294967296 k small (omega arith)) ∙ only_true (nat_lt at k) variables (Time k) (lt-ltb at k after)
 
 -- a later time
 pub time_read : (line variables at k : ℕ) (next : Next) (values : List ℕ) → AtTime variables at next → at < k → k < 4294967296 →
-    Goes (place variables next) values (map (on_line line) (time_words k)) (place variables (Time k)) values (cycles_of (k - at) values)
+    Goes (new_place variables next) values (map (on_line line) (time_words k)) (new_place variables (Time k)) values (cycles_of (k - at) values)
 time_read line variables at k next values here after small =
     let word : List ℕ = 35 ∷ decimal k in
-    subst (λ (t : ℕ). Goes (place variables next) values ((line, word) ∷ []) (place variables (Time k)) values (cycles_of (k - t) values)) here.time
-    (one_word line (place variables next) (place variables (Time k)) values word (here.steps word ∙ time_told variables at k after small))
+    subst (λ (t : ℕ). Goes (new_place variables next) values ((line, word) ∷ []) (new_place variables (Time k)) values (cycles_of (k - t) values)) here.time
+    (one_word line (new_place variables next) (new_place variables (Time k)) values word (here.steps word ∙ time_told variables at k after small))
 
 abbrev pub bit_value : Bool → ℕ
 bit_value true = 1
@@ -122,7 +122,7 @@ bit_value false = 0
 
 -- a change of a bit
 bit_told : (variables at n : ℕ) (bit : Bool) → at < 4294967295 → n < variables → n < 830584 → is_token n ≡ false →
-    in_body variables at ((cond bit 49 48) ∷ id_of n) ≡ Some (place variables (Set at n (bit_value bit)))
+    in_body variables at ((cond bit 49 48) ∷ id_of n) ≡ Some (new_place variables (Set at n (bit_value bit)))
 unfolding in_body
 bit_told variables at n true early below small kind =
     cond-true (nat_lt at 4294967295) (change variables at 49 (id_of n)) None (lt-ltb at 4294967295 early)
@@ -132,30 +132,30 @@ bit_told variables at n false early below small kind =
     ∙ ap (bit_set variables at 0) (named variables n below small) ∙ only_true (not (is_token n)) variables (Set at n 0) (ap not kind)
 
 pub bit_read : (line variables at : ℕ) (next : Next) (done rest : List ℕ) (x : ℕ) (bit : Bool) → AtTime variables at next → at < 4294967295 → length done < variables → length done < 830584 → is_token (length done) ≡ false →
-    Goes (place variables next) (done ++ x ∷ rest) (map (on_line line) (bit_words (length done) bit)) (place variables (Set at (length done) (bit_value bit))) (done ++ bit_value bit ∷ rest) []
+    Goes (new_place variables next) (done ++ x ∷ rest) (map (on_line line) (bit_words (length done) bit)) (new_place variables (Set at (length done) (bit_value bit))) (done ++ bit_value bit ∷ rest) []
 bit_read line variables at next done rest x bit here early below small kind =
     let n = length done in
     let word : List ℕ = cond bit 49 48 ∷ id_of n in
-    subst (λ (after : List ℕ). Goes (place variables next) (done ++ x ∷ rest) ((line, word) ∷ []) (place variables (Set at n (bit_value bit))) after []) (set-append_seam done x rest (bit_value bit))
-    (one_word line (place variables next) (place variables (Set at n (bit_value bit))) (done ++ x ∷ rest) word (here.steps word ∙ bit_told variables at n bit early below small kind))
+    subst (λ (after : List ℕ). Goes (new_place variables next) (done ++ x ∷ rest) ((line, word) ∷ []) (new_place variables (Set at n (bit_value bit))) after []) (set-append_seam done x rest (bit_value bit))
+    (one_word line (new_place variables next) (new_place variables (Set at n (bit_value bit))) (done ++ x ∷ rest) word (here.steps word ∙ bit_told variables at n bit early below small kind))
 
 -- a change of a token
-bits_told : (variables at token : ℕ) → at < 4294967295 → 0 < variables → token < 2 ^ 31 → in_body variables at (98 ∷ binary token) ≡ Some (place variables (Bits at token))
+bits_told : (variables at token : ℕ) → at < 4294967295 → 0 < variables → token < 2 ^ 31 → in_body variables at (98 ∷ binary token) ≡ Some (new_place variables (Bits at token))
 unfolding in_body
 bits_told variables at token early some small =
     cond-true (nat_lt at 4294967295) (change variables at 98 (binary token)) None (lt-ltb at 4294967295 early)
     ∙ ap (token_read variables at) (token_back token small) ∙ only_true (nat_lt 0 variables) variables (Bits at token) (lt-ltb 0 variables some)
 
-pub token_told : (variables at n token : ℕ) → n < variables → n < 830584 → is_token n ≡ true → step (place variables (Bits at token)) (id_of n) ≡ Some (place variables (Set at n token))
+pub token_told : (variables at n token : ℕ) → n < variables → n < 830584 → is_token n ≡ true → step (new_place variables (Bits at token)) (id_of n) ≡ Some (new_place variables (Set at n token))
 unfolding step
 token_told variables at n token below small kind = ap (token_set variables at token) (named variables n below small) ∙ only_true (is_token n) variables (Set at n token) kind
 
 pub token_read_at : (line variables at : ℕ) (next : Next) (done rest : List ℕ) (x token : ℕ) → AtTime variables at next → at < 4294967295 → length done < variables → length done < 830584 → is_token (length done) ≡ true → token < 2 ^ 31 →
-    Goes (place variables next) (done ++ x ∷ rest) (map (on_line line) (token_words (length done) token)) (place variables (Set at (length done) token)) (done ++ token ∷ rest) []
+    Goes (new_place variables next) (done ++ x ∷ rest) (map (on_line line) (token_words (length done) token)) (new_place variables (Set at (length done) token)) (done ++ token ∷ rest) []
 token_read_at line variables at next done rest x token here early below small kind fits =
     let n = length done in
     let none : List Shown = [] in
-    subst (λ (after : List ℕ). Goes (place variables next) (done ++ x ∷ rest) (map (on_line line) (token_words n token)) (place variables (Set at n token)) after []) (set-append_seam done x rest token)
-    (word_then line (place variables next) (place variables (Bits at token)) (place variables (Set at n token)) (done ++ x ∷ rest) (set (done ++ x ∷ rest) n token) (98 ∷ binary token) ((line, id_of n) ∷ []) none
+    subst (λ (after : List ℕ). Goes (new_place variables next) (done ++ x ∷ rest) (map (on_line line) (token_words n token)) (new_place variables (Set at n token)) after []) (set-append_seam done x rest token)
+    (word_then line (new_place variables next) (new_place variables (Bits at token)) (new_place variables (Set at n token)) (done ++ x ∷ rest) (set (done ++ x ∷ rest) n token) (98 ∷ binary token) ((line, id_of n) ∷ []) none
     (here.steps (98 ∷ binary token) ∙ bits_told variables at token early (omega arith) fits)
-    (one_word line (place variables (Bits at token)) (place variables (Set at n token)) (done ++ x ∷ rest) (id_of n) (token_told variables at n token below small kind)))
+    (one_word line (new_place variables (Bits at token)) (new_place variables (Set at n token)) (done ++ x ∷ rest) (id_of n) (token_told variables at n token below small kind)))

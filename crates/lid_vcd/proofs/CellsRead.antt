@@ -7,7 +7,7 @@ use Rattle.lid_base_lines.specs.Texts.{Words}
 use Rattle.lid_vcd_form.specs.declared.form.Next.{Next}
 use Rattle.lid_vcd_form.specs.declared.form.Next.TheVariants.{Set}
 use Rattle.lid_vcd_form.specs.Ids.{is_token}
-use Rattle.lid_vcd_form.specs.Form.{place}
+use Rattle.lid_vcd_form.specs.Form.{new_place}
 use Rattle.lid_vcd_form.specs.Shows.{cell_of, shown_stations}
 use Rattle.lid_vcd_form.specs.Text.{bit_words, token_words, cell_lines, bit_change, token_change, cell_changes}
 use Rattle.lid_vcd_form.specs.Writable.{IsCell}
@@ -36,10 +36,10 @@ values_shown (cell ∷ cells) all =
 pub record GoesAt (variables at : ℕ) (next : Next) (values : List ℕ) (words : List (ℕ × List ℕ)) (after : List ℕ) : Type 0 where
   pub to : Next
   pub here : AtTime variables at to
-  pub goes : Goes (place variables next) values words (place variables to) after []
+  pub goes : Goes (new_place variables next) values words (new_place variables to) after []
 
 pub stays : (variables at : ℕ) (next : Next) (values : List ℕ) → AtTime variables at next → GoesAt variables at next values [] values
-stays variables at next values here = record { to = next; here = here; goes = nothing (place variables next) values }
+stays variables at next values here = record { to = next; here = here; goes = nothing (new_place variables next) values }
 
 pub at_then : (line variables at : ℕ) (next : Next) (u v w : List ℕ) (xs ys : List Words) → GoesAt variables at next u (placed_lines line xs) v →
     ((to : Next) → AtTime variables at to → (n : ℕ) → GoesAt variables at to v (placed_lines n ys) w) → GoesAt variables at next u (placed_lines line (xs ++ ys)) w
@@ -49,8 +49,8 @@ at_then line variables at next u v w xs ys first second =
     record {
       to = rest.to;
       here = rest.here;
-      goes = subst (λ (ws : List (ℕ × List ℕ)). Goes (place variables next) u ws (place variables rest.to) w []) (sym (placed_append line xs ys))
-          (then_goes (place variables next) (place variables first.to) (place variables rest.to) u v w (placed_lines line xs) (placed_lines (line + length xs) ys) none none first.goes rest.goes);
+      goes = subst (λ (ws : List (ℕ × List ℕ)). Goes (new_place variables next) u ws (new_place variables rest.to) w []) (sym (placed_append line xs ys))
+          (then_goes (new_place variables next) (new_place variables first.to) (new_place variables rest.to) u v w (placed_lines line xs) (placed_lines (line + length xs) ys) none none first.goes rest.goes);
     }
 
 -- what is known of variables

@@ -8,9 +8,9 @@ use Rattle.lid_base.proofs.Lists.{not_false}
 use Rattle.lid_base_lines.specs.Texts.{Words}
 use Rattle.lid_vcd_form.specs.declared.form.Next.{Next}
 use Rattle.lid_vcd_form.specs.declared.form.Next.TheVariants.{Time}
-use Rattle.lid_vcd_form.specs.Form.{place}
+use Rattle.lid_vcd_form.specs.Form.{new_place}
 use Rattle.lid_vcd_form.specs.Shows.{shown_stations, cycles_of}
-use Rattle.lid_vcd_form.specs.Text.{time_words, cell_lines, all_lines, cell_changes, changes, bit_differs, differs, any_differs, later_lines}
+use Rattle.lid_vcd_form.specs.Text.{time_words, cell_lines, shown_lines, cell_changes, changes, bit_differs, differs, any_differs, later_lines}
 use Rattle.lid_vcd_form.specs.Writable.{IsCell}
 use Rattle.lid_vcd.proofs.WrittenWords.{on_line, placed_lines}
 use Rattle.lid_vcd.proofs.Going.{Goes, then_goes}
@@ -34,7 +34,7 @@ done_more done cell k e = let sum = length-append done (three_of cell) in omega 
 
 -- all variables are set
 pub all_goes : (line variables at : ℕ) (next : Next) (done olds : List ℕ) (k : ℕ) (cells : List Shown) → length done ≡ 3 * k → length olds ≡ 3 * length cells → AtTime variables at next → at < 4294967295 → 3 * k + 3 * length cells ≤ variables → variables ≤ 196608 →
-    AllByRecursion IsCell cells → GoesAt variables at next (done ++ olds) (placed_lines line (all_lines (3 * k) cells)) (done ++ values_of cells)
+    AllByRecursion IsCell cells → GoesAt variables at next (done ++ olds) (placed_lines line (shown_lines (3 * k) cells)) (done ++ values_of cells)
 all_goes line variables at next done [] k [] e long here early below few all = stays variables at next (done ++ []) here
 all_goes line variables at next done (x ∷ olds) k [] e long here early below few all = absurd (omega arith)
 all_goes line variables at next done [] k (cell ∷ cells) e long here early below few all = absurd (omega arith)
@@ -42,10 +42,10 @@ all_goes line variables at next done (x ∷ []) k (cell ∷ cells) e long here e
 all_goes line variables at next done (x ∷ y ∷ []) k (cell ∷ cells) e long here early below few all = absurd (omega arith)
 all_goes line variables at next done (x ∷ y ∷ z ∷ rest) k (cell ∷ cells) e long here early below few all =
     let number : 3 * suc k ≡ 3 * k + 3 = omega arith in
-    at_then line variables at next (done ++ x ∷ y ∷ z ∷ rest) (done ++ (three_of cell ++ rest)) (done ++ (three_of cell ++ values_of cells)) (cell_lines (3 * k) cell) (all_lines (3 * k + 3) cells)
+    at_then line variables at next (done ++ x ∷ y ∷ z ∷ rest) (done ++ (three_of cell ++ rest)) (done ++ (three_of cell ++ values_of cells)) (cell_lines (3 * k) cell) (shown_lines (3 * k + 3) cells)
     (cell_goes line variables at next done rest x y z k cell e here early (omega arith) few all.0)
-    (λ to h m. subst (λ (n : ℕ). GoesAt variables at to (done ++ (three_of cell ++ rest)) (placed_lines m (all_lines n cells)) (done ++ (three_of cell ++ values_of cells))) number
-    (shifted variables at to done (three_of cell) rest (values_of cells) (placed_lines m (all_lines (3 * suc k) cells))
+    (λ to h m. subst (λ (n : ℕ). GoesAt variables at to (done ++ (three_of cell ++ rest)) (placed_lines m (shown_lines n cells)) (done ++ (three_of cell ++ values_of cells))) number
+    (shifted variables at to done (three_of cell) rest (values_of cells) (placed_lines m (shown_lines (3 * suc k) cells))
     (all_goes m variables at to (done ++ three_of cell) rest (suc k) cells (done_more done cell k e) (omega arith) h early (omega arith) few all.1)))
 
 -- the variables that changed are set
@@ -100,7 +100,7 @@ cycles_more (suc n) values = ap (λ (cells : List Shown). shown_stations values 
 -- the rest of a body: it ends at a time, and these cells are shown
 pub record Ends (variables : ℕ) (next : Next) (values : List ℕ) (words : List (ℕ × List ℕ)) (last : ℕ) (cells : List Shown) : Type 0 where
   pub after : List ℕ
-  pub goes : Goes (place variables next) values words (place variables (Time last)) after cells
+  pub goes : Goes (new_place variables next) values words (new_place variables (Time last)) after cells
 
 -- one cycle, at the next time
 abbrev after_one : ℕ → List Shown → List Shown → List Shown
@@ -121,13 +121,13 @@ changed line variables at k last next before row rest lines here after early lon
     let set = changes_go (line + 1) variables k (Time k) [] 0 before row refl long (at_time variables k) early (omega arith) few all in
     let over = more set.to (line + 1 + length (changes 0 before row)) set.here in
     let none : List Shown = [] in
-    let later : Goes (place variables (Time k)) v (placed_lines (line + 1) (changes 0 before row ++ lines)) (place variables (Time last)) over.after (after_one k row rest) =
-    subst (λ (ws : List (ℕ × List ℕ)). Goes (place variables (Time k)) v ws (place variables (Time last)) over.after (after_one k row rest)) (sym (placed_append (line + 1) (changes 0 before row) lines))
-    (then_goes (place variables (Time k)) (place variables set.to) (place variables (Time last)) v w over.after (placed_lines (line + 1) (changes 0 before row)) (placed_lines (line + 1 + length (changes 0 before row)) lines) none (after_one k row rest) set.goes over.goes) in
+    let later : Goes (new_place variables (Time k)) v (placed_lines (line + 1) (changes 0 before row ++ lines)) (new_place variables (Time last)) over.after (after_one k row rest) =
+    subst (λ (ws : List (ℕ × List ℕ)). Goes (new_place variables (Time k)) v ws (new_place variables (Time last)) over.after (after_one k row rest)) (sym (placed_append (line + 1) (changes 0 before row) lines))
+    (then_goes (new_place variables (Time k)) (new_place variables set.to) (new_place variables (Time last)) v w over.after (placed_lines (line + 1) (changes 0 before row)) (placed_lines (line + 1 + length (changes 0 before row)) lines) none (after_one k row rest) set.goes over.goes) in
     record {
       after = over.after;
-      goes = subst (λ (cells : List Shown). Goes (place variables next) v (placed_lines line ((time_words k ∷ changes 0 before row) ++ lines)) (place variables (Time last)) over.after (cycles_of (k - at) v ++ cells)) (one_more k row rest all)
-          (then_goes (place variables next) (place variables (Time k)) (place variables (Time last)) v v over.after (map (on_line line) (time_words k)) (placed_lines (line + 1) (changes 0 before row ++ lines)) (cycles_of (k - at) v) (after_one k row rest)
+      goes = subst (λ (cells : List Shown). Goes (new_place variables next) v (placed_lines line ((time_words k ∷ changes 0 before row) ++ lines)) (new_place variables (Time last)) over.after (cycles_of (k - at) v ++ cells)) (one_more k row rest all)
+          (then_goes (new_place variables next) (new_place variables (Time k)) (new_place variables (Time last)) v v over.after (map (on_line line) (time_words k)) (placed_lines (line + 1) (changes 0 before row ++ lines)) (cycles_of (k - at) v) (after_one k row rest)
           (time_read line variables at k next v here after (omega arith)) later);
     }
 
@@ -179,8 +179,8 @@ later_goes line stations variables at k zero next before [] here after early wid
     let same : k ≡ k + 0 = omega arith in
     record {
       after = v;
-      goes = subst (λ (t : ℕ). Goes (place variables next) v (placed_lines line (time_words k ∷ [])) (place variables (Time t)) v (cycles_of (k - at) v ++ [])) same
-          (subst (λ (c : List Shown). Goes (place variables next) v (placed_lines line (time_words k ∷ [])) (place variables (Time k)) v c) (sym (append-nil (cycles_of (k - at) v)))
+      goes = subst (λ (t : ℕ). Goes (new_place variables next) v (placed_lines line (time_words k ∷ [])) (new_place variables (Time t)) v (cycles_of (k - at) v ++ [])) same
+          (subst (λ (c : List Shown). Goes (new_place variables next) v (placed_lines line (time_words k ∷ [])) (new_place variables (Time k)) v c) (sym (append-nil (cycles_of (k - at) v)))
           (time_read line variables at k next v here after (omega arith)));
     }
 later_goes line stations variables at k zero next before (cell ∷ cells) here after early wide long below few all each = absurd (omega arith)

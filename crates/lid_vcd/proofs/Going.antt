@@ -3,7 +3,7 @@ use Rattle.std.proofs.Common.{◌≡◌, ℕ, Bool, true, List, [], ◌∷◌, �
 use Rattle.std.specs.Prelude.{Option, Some, None, Result, Ok, Err, option_and_then}
 use Rattle.lid_base.specs.declared.runs.Shown.{Shown}
 use Rattle.lid_vcd_form.specs.declared.form.Place.{Place}
-use Rattle.lid_vcd_form.specs.Form.{step, run, is_time, going_on, ended}
+use Rattle.lid_vcd_form.specs.Form.{step, read_words, is_time, going_on, ended}
 use Rattle.lid_vcd.specs.Laws.{place_after}
 use Rattle.lid_vcd_form.specs.Shows.{time_of, cycles_until, values_after, cells_with, cells_on}
 
@@ -48,7 +48,7 @@ word_then n p q r values after word words cells e rest =
     then_goes p q r values (values_after values q.next) after ((n, word) ∷ []) words (cycles_until (time_of p.next) values q.next) cells (one_word n p q values word e) rest
 
 -- at the end
-pub run_goes : (last : ℕ) (p q : Place) (words : List (ℕ × List ℕ)) → goes p words ≡ Some q → is_time q.next ≡ true → run last p words ≡ Ok q
+pub run_goes : (last : ℕ) (p q : Place) (words : List (ℕ × List ℕ)) → goes p words ≡ Some q → is_time q.next ≡ true → read_words last p words ≡ Ok q
 run_goes last p q [] e h =
     let same : p ≡ q = (let f : Some p ≡ Some q = e in cc) in
     let done : Result Place ℕ = Ok q in
@@ -56,6 +56,6 @@ run_goes last p q [] e h =
     subst (λ (r : Place). ended last r ≡ Ok q) (sym same) (ap (λ (b : Bool). cond b done over) h)
 run_goes last p q (word ∷ words) e h = by (step p word.1) (λ r f. run_goes word.0 r q words f h) e
   where
-    by : (o : Option Place) → ((r : Place) → goes r words ≡ Some q → run word.0 r words ≡ Ok q) → option_and_then (λ r. goes r words) o ≡ Some q → going_on word.0 o (λ r. run word.0 r words) ≡ Ok q
+    by : (o : Option Place) → ((r : Place) → goes r words ≡ Some q → read_words word.0 r words ≡ Ok q) → option_and_then (λ r. goes r words) o ≡ Some q → going_on word.0 o (λ r. read_words word.0 r words) ≡ Ok q
     by None next f = absurd (let g : None ≡ Some q = f in cc)
     by (Some r) next f = next r f

@@ -3,7 +3,7 @@ use Rattle.std.proofs.Common.{◌≡◌, ℕ, zero, suc, ◌+◌, ◌-◌, ◌<�
 use Rattle.lid_base.specs.declared.runs.Shown.{Shown}
 use Rattle.lid_base_lines.specs.Texts.{Words, line_text, lines_text}
 use Rattle.lid_base_lines.proofs.Pieces.{lines_text_append}
-use Rattle.lid_vcd_form.specs.Text.{declaration, declarations, time_words, all_lines, changes, any_differs, cycle_lines, later_lines, body_lines}
+use Rattle.lid_vcd_form.specs.Text.{declaration, declarations, time_words, shown_lines, changes, any_differs, cycle_lines, later_lines, body_lines}
 use Rattle.lid_base.proofs.Lists.{appended}
 
 -- two parts
@@ -38,15 +38,15 @@ later_step stations k (suc left) before row cells after old new whole some r a s
 
 -- a body with a cycle
 pub body_made : (stations cycles : ℕ) (cells row after : List Shown) (old mid rest new : List ℕ) → 0 < cycles → row ≡ take stations cells → after ≡ drop stations cells →
-    mid ≡ old ++ line_text (time_words 0) → rest ≡ mid ++ lines_text (all_lines 0 row) → new ≡ rest ++ lines_text (later_lines stations 1 (cycles - 1) row after) → new ≡ old ++ lines_text (body_lines stations cycles cells)
+    mid ≡ old ++ line_text (time_words 0) → rest ≡ mid ++ lines_text (shown_lines 0 row) → new ≡ rest ++ lines_text (later_lines stations 1 (cycles - 1) row after) → new ≡ old ++ lines_text (body_lines stations cycles cells)
 body_made stations zero cells row after old mid rest new some r a first all later = absurd (omega arith)
 body_made stations (suc left) cells row after old mid rest new some r a first all later =
     let less : suc left - 1 ≡ left = omega arith in
     let one : mid ≡ old ++ lines_text (time_words 0 ∷ []) = first ∙ ap (λ (bytes : List ℕ). old ++ bytes) (sym (append-nil (line_text (time_words 0)))) in
-    three old mid rest new (time_words 0 ∷ []) (all_lines 0 row) (later_lines stations 1 (suc left - 1) row after) one all later
-    ∙ ap (λ (m : ℕ). old ++ lines_text (time_words 0 ∷ (all_lines 0 row ++ later_lines stations 1 m row after))) less
-    ∙ ap (λ (xs : List Shown). old ++ lines_text (time_words 0 ∷ (all_lines 0 xs ++ later_lines stations 1 left xs after))) r
-    ∙ ap (λ (xs : List Shown). old ++ lines_text (time_words 0 ∷ (all_lines 0 (take stations cells) ++ later_lines stations 1 left (take stations cells) xs))) a
+    three old mid rest new (time_words 0 ∷ []) (shown_lines 0 row) (later_lines stations 1 (suc left - 1) row after) one all later
+    ∙ ap (λ (m : ℕ). old ++ lines_text (time_words 0 ∷ (shown_lines 0 row ++ later_lines stations 1 m row after))) less
+    ∙ ap (λ (xs : List Shown). old ++ lines_text (time_words 0 ∷ (shown_lines 0 xs ++ later_lines stations 1 left xs after))) r
+    ∙ ap (λ (xs : List Shown). old ++ lines_text (time_words 0 ∷ (shown_lines 0 (take stations cells) ++ later_lines stations 1 left (take stations cells) xs))) a
 
 -- nothing changes where nothing is left
 pub none_differs : (olds news : List Shown) → length news ≡ 0 → any_differs olds news ≡ false

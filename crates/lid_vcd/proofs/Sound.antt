@@ -13,8 +13,8 @@ use Rattle.lid_vcd_form.specs.declared.form.Section.TheVariants.{Timescale, Scop
 use Rattle.lid_vcd_form.specs.declared.form.Next.{Next}
 use Rattle.lid_vcd_form.specs.declared.form.Next.TheVariants.{Before, Note, Inside, Time, Set, Bits}
 use Rattle.lid_vcd_form.specs.declared.form.Place.{Place}
-use Rattle.lid_vcd_form.specs.Ids.{variable_of, token_of, is_bit, are_bits, bits_on}
-use Rattle.lid_vcd_form.specs.Form.{place, start, step, run, going_on, is_time, is_end, is_note, only, begins_variable, begins, before_section, in_note, in_timescale, in_scope, in_variable, in_section, later, bit_set, token_read, token_set, change, in_body}
+use Rattle.lid_vcd_form.specs.Ids.{variable_of, token_in_bits, is_bit, are_bits, bits_on}
+use Rattle.lid_vcd_form.specs.Form.{new_place, start, step, read_words, going_on, is_time, is_end, is_note, only, begins_variable, begins, before_section, in_note, in_timescale, in_scope, in_variable, in_section, later, bit_set, token_read, token_set, change, in_body}
 use Rattle.lid_vcd_form.specs.Shows.{cell_of, shown_stations, cycles_of, time_of, values_after, cycles_until, cells_with, cells_on}
 use Rattle.lid_texts_runs.specs.declared.trace.Trace.{Trace}
 use Rattle.lid_vcd_form.specs.Writable.{IsCell, IsWritable}
@@ -41,8 +41,8 @@ module _ (P : Place → Type 0) where
   pub some_gives : (p q : Place) → P p → Some p ≡ Some q → P q
   some_gives p q h e = subst P (let f : Some p ≡ Some q = e in cc) h
 
-  pub only_gives : (b : Bool) (n : ℕ) (next : Next) → (b ≡ true → P (place n next)) → (q : Place) → only b n next ≡ Some q → P q
-  only_gives true n next h q e = some_gives (place n next) q (h refl) e
+  pub only_gives : (b : Bool) (n : ℕ) (next : Next) → (b ≡ true → P (new_place n next)) → (q : Place) → only b n next ≡ Some q → P q
+  only_gives true n next h q e = some_gives (new_place n next) q (h refl) e
   only_gives false n next h q e = absurd (let f : None ≡ Some q = e in cc)
 
   pub cond_gives : (b : Bool) (x y : Option Place) → (b ≡ true → (q : Place) → x ≡ Some q → P q) → ((q : Place) → y ≡ Some q → P q) → (q : Place) → cond b x y ≡ Some q → P q
@@ -53,10 +53,10 @@ pub none_gives : {P : Type 0} (q : Place) → None ≡ Some q → P
 none_gives q e = absurd (let f : None ≡ Some q = e in cc)
 
 -- before the body
-headed : (n : ℕ) (section : Section) → n ≤ 196608 → IsSound 0 (place n (Before section))
+headed : (n : ℕ) (section : Section) → n ≤ 196608 → IsSound 0 (new_place n (Before section))
 headed n section few = record { few = few; small = tt; follows = refl }
 
-inside : (n i : ℕ) (section : Section) → n ≤ 196608 → IsSound 0 (place n (Inside section i))
+inside : (n i : ℕ) (section : Section) → n ≤ 196608 → IsSound 0 (new_place n (Inside section i))
 inside n i section few = record { few = few; small = tt; follows = refl }
 
 begins_variable_sound : (n : ℕ) (word : List ℕ) → n ≤ 196608 → (q : Place) → begins_variable n word ≡ Some q → IsSound 0 q
@@ -77,20 +77,20 @@ begins_sound n Body word few = only_gives (IsSound 0) (bytes_eq word (codes "#0"
 
 before_sound : (n : ℕ) (section : Section) (word : List ℕ) → n ≤ 196608 → (q : Place) → before_section n section word ≡ Some q → IsSound 0 q
 before_sound n section word few =
-    cond_gives (IsSound 0) (is_note word) (Some (place n (Note section))) (begins n section word)
-    (λ _ q e. some_gives (IsSound 0) (place n (Note section)) q (record { few = few; small = tt; follows = refl }) e) (begins_sound n section word few)
+    cond_gives (IsSound 0) (is_note word) (Some (new_place n (Note section))) (begins n section word)
+    (λ _ q e. some_gives (IsSound 0) (new_place n (Note section)) q (record { few = few; small = tt; follows = refl }) e) (begins_sound n section word few)
 
 note_sound : (n : ℕ) (section : Section) (word : List ℕ) → n ≤ 196608 → (q : Place) → in_note n section word ≡ Some q → IsSound 0 q
-note_sound n section word few q e = some_gives (IsSound 0) (place n (cond (is_end word) (Before section) (Note section))) q (by (is_end word)) e
+note_sound n section word few q e = some_gives (IsSound 0) (new_place n (cond (is_end word) (Before section) (Note section))) q (by (is_end word)) e
   where
-    by : (b : Bool) → IsSound 0 (place n (cond b (Before section) (Note section)))
+    by : (b : Bool) → IsSound 0 (new_place n (cond b (Before section) (Note section)))
     by true = record { few = few; small = tt; follows = refl }
     by false = record { few = few; small = tt; follows = refl }
 
 timescale_sound : (n : ℕ) (word : List ℕ) → n ≤ 196608 → (q : Place) → in_timescale n word ≡ Some q → IsSound 0 q
-timescale_sound n word few q e = some_gives (IsSound 0) (place n (cond (is_end word) (Before Scope) (Inside Timescale 1))) q (by (is_end word)) e
+timescale_sound n word few q e = some_gives (IsSound 0) (new_place n (cond (is_end word) (Before Scope) (Inside Timescale 1))) q (by (is_end word)) e
   where
-    by : (b : Bool) → IsSound 0 (place n (cond b (Before Scope) (Inside Timescale 1)))
+    by : (b : Bool) → IsSound 0 (new_place n (cond b (Before Scope) (Inside Timescale 1)))
     by true = record { few = few; small = tt; follows = refl }
     by false = record { few = few; small = tt; follows = refl }
 
@@ -133,8 +133,8 @@ bits_most n (b ∷ bits) h =
     let double : 2 ^ suc (length bits) ≡ 2 * 2 ^ length bits = grind arith in
     subst (λ (p : ℕ). bits_on n (b ∷ bits) + 1 ≤ (n + 1) * p) (sym double) (bits_step n (b - 48) (bits_on n (b ∷ bits)) (2 ^ length bits) small front)
 
-token_small : (word : List ℕ) (n : ℕ) → token_of word ≡ Some n → n < 2 ^ 31
-unfolding token_of
+token_small : (word : List ℕ) (n : ℕ) → token_in_bits word ≡ Some n → n < 2 ^ 31
+unfolding token_in_bits
 token_small word n e = by (are_bits word) refl e
   where
     by : (b : Bool) → are_bits word ≡ b → cond b (Some (bits_on 0 word)) None ≡ Some n → n < 2 ^ 31
@@ -149,7 +149,7 @@ token_small word n e = by (are_bits word) refl e
     by false h f = absurd (let g : None ≡ Some n = f in cc)
 
 -- in the body
-set_sound : (n at m value : ℕ) → n ≤ 196608 → value < 2 ^ 31 → IsSound at (place n (Set at m value))
+set_sound : (n at m value : ℕ) → n ≤ 196608 → value < 2 ^ 31 → IsSound at (new_place n (Set at m value))
 set_sound n at m value few small = record { few = few; small = small; follows = refl }
 
 later_sound : (n at : ℕ) (o : Option ℕ) → n ≤ 196608 → (q : Place) → later n at o ≡ Some q → IsSound at q
@@ -175,14 +175,14 @@ body_sound n at (mark ∷ rest) few =
     cond_gives (IsSound at) (mark == 35) _ _ (λ _. later_sound n at (number_below 4294967296 rest) few)
     (cond_gives (IsSound at) (nat_lt at 4294967295) (change n at mark rest) None
     (λ _. cond_gives (IsSound at) ((mark == 48) || (mark == 49)) _ _ (λ h. bit_sound n at (mark - 48) (variable_of n rest) few (let s = bit_small mark h in omega arith))
-    (cond_gives (IsSound at) (mark == 98) _ None (λ _. bits_sound n at (token_of rest) few (token_small rest)) (λ q e. none_gives q e)))
+    (cond_gives (IsSound at) (mark == 98) _ None (λ _. bits_sound n at (token_in_bits rest) few (token_small rest)) (λ q e. none_gives q e)))
     (λ q e. none_gives q e))
 
 pub step_sound : (last : ℕ) (p q : Place) (word : List ℕ) → IsSound last p → step p word ≡ Some q → IsSound (time_of p.next) q
 unfolding step
 step_sound last p q word so e = by p.next so.small e
   where
-    by : (next : Next) → IsSmall next → step (place p.variables next) word ≡ Some q → IsSound (time_of next) q
+    by : (next : Next) → IsSmall next → step (new_place p.variables next) word ≡ Some q → IsSound (time_of next) q
     by (Before section) small f = before_sound p.variables section word so.few q f
     by (Note section) small f = note_sound p.variables section word so.few q f
     by (Inside section i) small f = section_sound p.variables section i word so.few q f
@@ -282,7 +282,7 @@ not_before last (Before section) follows = omega arith
 not_before last (Note section) follows = omega arith
 not_before last (Inside section i) follows = omega arith
 
-pub all_shown : (last first stations : ℕ) (p q : Place) (values : List ℕ) (words : List (ℕ × List ℕ)) → IsSound first p → length values / 3 ≡ stations → AreSmall values → run last p words ≡ Ok q → AreShown stations (time_of p.next) q (cells_on p values words)
+pub all_shown : (last first stations : ℕ) (p q : Place) (values : List ℕ) (words : List (ℕ × List ℕ)) → IsSound first p → length values / 3 ≡ stations → AreSmall values → read_words last p words ≡ Ok q → AreShown stations (time_of p.next) q (cells_on p values words)
 all_shown last first stations p q values [] so e all ran = by (is_time p.next) ran
   where
     by : (b : Bool) → cond b (Ok p) (Err last) ≡ Ok q → AreShown stations (time_of p.next) q []
@@ -296,8 +296,8 @@ all_shown last first stations p q values (word ∷ words) so e all ran =
     (λ r sound. all_shown word.0 (time_of p.next) stations r q (values_after values r.next) words sound (ap (λ (n : ℕ). n / 3) (after_long values r.next) ∙ e) (after_small values r.next all sound.small)) ran
   where
     by : (o : Option Place) → ((r : Place) → o ≡ Some r → IsSound (time_of p.next) r) →
-        ((r : Place) → IsSound (time_of p.next) r → run word.0 r words ≡ Ok q → AreShown stations (time_of r.next) q (cells_on r (values_after values r.next) words)) →
-        going_on word.0 o (λ r. run word.0 r words) ≡ Ok q → AreShown stations (time_of p.next) q (cells_with (time_of p.next) values o (λ r next. cells_on r next words))
+        ((r : Place) → IsSound (time_of p.next) r → read_words word.0 r words ≡ Ok q → AreShown stations (time_of r.next) q (cells_on r (values_after values r.next) words)) →
+        going_on word.0 o (λ r. read_words word.0 r words) ≡ Ok q → AreShown stations (time_of p.next) q (cells_with (time_of p.next) values o (λ r next. cells_on r next words))
     by None sound next f = absurd (let g : (let r : Result Place ℕ = Err word.0 in r) ≡ Ok q = f in cc)
     by (Some r) sound next f =
         let here = sound r refl in
@@ -326,7 +326,7 @@ length_zeros zero = refl
 length_zeros (suc n) = let e = length_zeros n in omega arith
 
 -- a trace of words of the form, within the limit
-pub writable_trace : (words : List (ℕ × List ℕ)) (p : Place) (t : Trace) → run 0 start words ≡ Ok p → t.stations ≡ p.variables / 3 → t.cycles ≡ time_of p.next → t.cells ≡ cells_on start (replicate p.variables 0) words →
+pub writable_trace : (words : List (ℕ × List ℕ)) (p : Place) (t : Trace) → read_words 0 start words ≡ Ok p → t.stations ≡ p.variables / 3 → t.cycles ≡ time_of p.next → t.cells ≡ cells_on start (replicate p.variables 0) words →
     max (p.variables / 3) 1 * time_of p.next ≤ 1048576 → IsWritable t
 writable_trace words p t ran stations cycles cells few =
     let so : IsSound 0 start = record { few = omega arith; small = tt; follows = refl } in

@@ -12,7 +12,7 @@ use Rattle.lid_base_lines.proofs.Pieces.{lines_text_append}
 use Rattle.lid_texts_runs.specs.declared.trace.Trace.{Trace}
 use Rattle.lid_vcd_form.specs.Ids.{id_of, width_of, ending_of, is_token, binary, binary_by}
 use Rattle.lid_vcd_form.specs.Shows.{wave_of}
-use Rattle.lid_vcd_form.specs.Text.{declaration, declarations, timescale_words, scope_words, upscope_words, definitions_words, time_words, head_lines, bit_words, token_words, cell_lines, all_lines, bit_change, token_change, cell_changes, changes, any_differs, cycle_lines, later_lines, body_lines, wave_text}
+use Rattle.lid_vcd_form.specs.Text.{declaration, declarations, timescale_words, scope_words, upscope_words, definitions_words, time_words, head_lines, bit_words, token_words, cell_lines, shown_lines, bit_change, token_change, cell_changes, changes, any_differs, cycle_lines, later_lines, body_lines, wave_text}
 use Rattle.lid_vcd_form.specs.Writable.{IsWritable}
 use Rattle.lid_vcd.specs.declared.reader.VcdFault.TheVariants.{Limit}
 use Rattle.lid_vcd.specs.Reading.{cell_count, judged, wave_reading}
@@ -123,12 +123,12 @@ cell_size n cell =
     let third = one_first (token_words (n + 2) cell.token) [] in
     omega arith
 
-all_size : (n : ℕ) (cells : List Shown) → bytes_of (all_lines n cells) ≤ 47 * length cells
+all_size : (n : ℕ) (cells : List Shown) → bytes_of (shown_lines n cells) ≤ 47 * length cells
 all_size n [] = omega arith
 all_size n (cell ∷ cells) =
     let first = cell_size n cell in
     let rest = all_size (n + 3) cells in
-    let sum = two_parts (cell_lines n cell) (all_lines (n + 3) cells) in
+    let sum = two_parts (cell_lines n cell) (shown_lines (n + 3) cells) in
     omega arith
 
 bit_change_size : (n : ℕ) (a b : Bool) → bytes_of (bit_change n a b) ≤ 5
@@ -184,8 +184,8 @@ body_size stations (suc left) cells long few =
     let time = time_size 0 (omega arith) in
     let all = all_size 0 row in
     let rest = later_size stations 1 left row after (omega arith) (omega arith) in
-    let parts = two_parts (all_lines 0 row) (later_lines stations 1 left row after) in
-    let sum = one_first (time_words 0) (all_lines 0 row ++ later_lines stations 1 left row after) in
+    let parts = two_parts (shown_lines 0 row) (later_lines stations 1 left row after) in
+    let sum = one_first (time_words 0) (shown_lines 0 row ++ later_lines stations 1 left row after) in
     omega arith
 
 opening_size : bytes_of (timescale_words ∷ scope_words ∷ []) ≤ 100

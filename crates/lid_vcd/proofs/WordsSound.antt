@@ -10,7 +10,7 @@ use Rattle.lid_base.specs.Lines.{is_newline, is_separator}
 use Rattle.lid_base.proofs.Lists.{all_append}
 use Rattle.lid_vcd_form.specs.Words.{separates}
 use Rattle.lid_vcd_form.specs.Ids.{id_of, width_of, ending_of, is_token, binary, binary_by}
-use Rattle.lid_vcd_form.specs.Text.{declaration, declarations, timescale_words, scope_words, upscope_words, definitions_words, time_words, head_lines, bit_words, token_words, all_lines, bit_change, token_change, cell_changes, changes, any_differs, cycle_lines, later_lines, body_lines}
+use Rattle.lid_vcd_form.specs.Text.{declaration, declarations, timescale_words, scope_words, upscope_words, definitions_words, time_words, head_lines, bit_words, token_words, shown_lines, bit_change, token_change, cell_changes, changes, any_differs, cycle_lines, later_lines, body_lines}
 use Rattle.lid_vcd.proofs.WrittenWords.{IsWord, IsLine}
 
 -- bytes from 33 on separate no words
@@ -140,7 +140,7 @@ token_line : (n token : ℕ) → IsLine (token_words n token)
 unfolding binary
 token_line n token = record { some = omega arith; words = (marked 98 (binary_by 31 token) refl (plain_binary 31 token), (id_word n, tt)) }
 
-all_sound : (n : ℕ) (cells : List Shown) → AllByRecursion IsLine (all_lines n cells)
+all_sound : (n : ℕ) (cells : List Shown) → AllByRecursion IsLine (shown_lines n cells)
 all_sound n [] = tt
 all_sound n (cell ∷ cells) = (bit_line n cell.valid, (bit_line (n + 1) cell.stop, (token_line (n + 2) cell.token, all_sound (n + 3) cells)))
 
@@ -182,4 +182,4 @@ later_sound stations k (suc left) before cells small =
 pub body_sound : (stations cycles : ℕ) (cells : List Shown) → cycles < 2 ^ 64 → AllByRecursion IsLine (body_lines stations cycles cells)
 body_sound stations zero cells small = (time_line 0 (omega arith), tt)
 body_sound stations (suc left) cells small =
-    (time_line 0 (omega arith), all_append IsLine (all_lines 0 (take stations cells)) (later_lines stations 1 left (take stations cells) (drop stations cells)) (all_sound 0 (take stations cells)) (later_sound stations 1 left (take stations cells) (drop stations cells) (omega arith)))
+    (time_line 0 (omega arith), all_append IsLine (shown_lines 0 (take stations cells)) (later_lines stations 1 left (take stations cells) (drop stations cells)) (all_sound 0 (take stations cells)) (later_sound stations 1 left (take stations cells) (drop stations cells) (omega arith)))

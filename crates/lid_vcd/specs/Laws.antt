@@ -3,7 +3,7 @@ use Rattle.std.specs.Prelude.{◌≡◌, ℕ, List, [], ◌∷◌, ◌++◌, Opt
 use Rattle.lid_texts_runs.specs.declared.trace.Trace.{Trace}
 use Rattle.lid_vcd_form.specs.declared.form.Place.{Place}
 use Rattle.lid_vcd_form.specs.Words.{placed_words}
-use Rattle.lid_vcd_form.specs.Form.{start, step, run}
+use Rattle.lid_vcd_form.specs.Form.{start, step, read_words}
 use Rattle.lid_vcd_form.specs.Shows.{Wave}
 use Rattle.lid_vcd_form.specs.Text.{wave_text}
 use Rattle.lid_vcd_form.specs.Writable.{IsWritable}
@@ -32,7 +32,7 @@ WordsGoOn = (bytes : List ℕ) (p : Place) → place_after start (placed_words b
 
 -- words that begin with one that is refused are of the form by no further words: the line of that word is told
 abbrev pub RefusalsStay : Type 0
-RefusalsStay = (words : List (ℕ × List ℕ)) (p : Place) (word : ℕ × List ℕ) (more : List (ℕ × List ℕ)) → place_after start words ≡ Some p → step p word.1 ≡ None → run 0 start (words ++ word ∷ more) ≡ Err word.0
+RefusalsStay = (words : List (ℕ × List ℕ)) (p : Place) (word : ℕ × List ℕ) (more : List (ℕ × List ℕ)) → place_after start words ≡ Some p → step p word.1 ≡ None → read_words 0 start (words ++ word ∷ more) ≡ Err word.0
 
 -- a trace that is read is one that the text shows
 abbrev pub ReadAreWaves : Type 0

@@ -2,7 +2,7 @@
 
 ghost use Rattle.std.specs.Prelude.{◌≡◌, ◌⊎◌, ◌≤◌, ◌*◌, ◌/◌, Ok, Err, max, length, IfOk, IfErr};
 ghost use Rattle.lid_vcd_form.specs.Words.{placed_words};
-ghost use Rattle.lid_vcd_form.specs.Form.{start, run};
+ghost use Rattle.lid_vcd_form.specs.Form.{start, read_words};
 ghost use Rattle.lid_vcd_form.specs.Shows.{time_of, Wave, trace_at, wave_of};
 ghost use Rattle.lid_vcd_form.specs.Writable.{IsWritable};
 ghost use Rattle.lid_vcd.specs.Reading.{cell_count, if_few, wave_reading};
@@ -35,7 +35,7 @@ pub enum VcdFault {
 #[tactic(auto, unfolding(lid_vcd_form::specs::Words::placed_words))]
 fn find_end(bytes: &[u8]) -> Result<Place, u32>
     requires { length bytes.now ≤ 67108864 }
-    ensures { result ≡ run 0 start (placed_words bytes.now) }
+    ensures { result ≡ read_words 0 start (placed_words bytes.now) }
 {
     let mut place = Place::start();
     let mut last = 0;
@@ -68,7 +68,7 @@ fn count_cells(place: Place) -> u64
 /// The trace of a text that is of the form and ends at this place.
 fn trace_at(alloc: Global, place: Place, bytes: &[u8]) -> Result<Trace, VcdFault>
     requires few { length bytes.now ≤ 67108864 }
-    requires form { run 0 start (placed_words bytes.now) ≡ Ok place }
+    requires form { read_words 0 start (placed_words bytes.now) ≡ Ok place }
     ensures writable { IfOk result IsWritable }
     ensures ok { IfOk result (λ trace. if_few (trace_at (placed_words bytes.now) place) ≡ Ok trace) }
     ensures err { IfErr result (λ e. (e ≡ VcdFault.Memory) ⊎ (if_few (trace_at (placed_words bytes.now) place) ≡ Err e)) }

@@ -11,7 +11,7 @@ ghost use Rattle.lid_vcd_form.specs.Text.{
   upscope_words,
   definitions_words,
   head_lines,
-  all_lines,
+  shown_lines,
   changes,
   bit_differs,
   differs,
@@ -75,7 +75,7 @@ fn append_head(variables: u32, into: &mut Vec<u8>) -> Result<(), AllocError>
 /// Appends all variables.
 fn append_all(cells: &[Shown], into: &mut Vec<u8>) -> Result<(), AllocError>
     requires { length cells.now ≤ 65536 }
-    ensures ok { OnOk result (into.new.items ≡ into.old.items ++ lines_text (all_lines 0 cells.now)) }
+    ensures ok { OnOk result (into.new.items ≡ into.old.items ++ lines_text (shown_lines 0 cells.now)) }
     ensures kept { Keeps into.old.items into.new.items }
 {
     let mut n = 0;

@@ -1,7 +1,7 @@
 -- The form of a dump: what each word may be, by what was read before it.
 use Rattle.std.specs.Prelude.{ℕ, ◌+◌, ◌-◌, ◌/◌, ◌%◌, ◌==◌, nat_lt, Bool, true, false, not, ◌&&◌, ◌||◌, if◌then◌else◌, List, [], ◌∷◌, length, take, drop, codes, bytes_eq, Option, Some, None, Result, Ok, Err}
 use Rattle.lid_base.specs.Numbers.{number_below}
-use Rattle.lid_vcd_form.specs.Ids.{id_of, variable_of, token_of, is_token, width_of, ending_of}
+use Rattle.lid_vcd_form.specs.Ids.{id_of, variable_of, token_in_bits, is_token, width_of, ending_of}
 use Rattle.lid_vcd_form.specs.declared.form.Section.{Section}
 use Rattle.lid_vcd_form.specs.declared.form.Section.TheVariants.{Timescale, Scope, Variable, Upscope, Definitions, Body}
 use Rattle.lid_vcd_form.specs.declared.form.Next.{Next}
@@ -9,12 +9,12 @@ use Rattle.lid_vcd_form.specs.declared.form.Next.TheVariants.{Before, Note, Insi
 use Rattle.lid_vcd_form.specs.declared.form.Place.{Place}
 
 -- a place where so many variables were declared
-abbrev pub place : ℕ → Next → Place
-place variables next = record { variables = variables; next = next }
+abbrev pub new_place : ℕ → Next → Place
+new_place variables next = record { variables = variables; next = next }
 
 -- before the first word
 abbrev pub start : Place
-start = place 0 (Before Timescale)
+start = new_place 0 (Before Timescale)
 
 abbrev pub is_end : List ℕ → Bool
 is_end word = bytes_eq word (codes "$end")
@@ -39,7 +39,7 @@ is_name n word =
     bytes_eq (drop (length word - length (ending_of n)) word) (ending_of n) && is_stem (n / 3) (take (length word - length (ending_of n)) word)
 
 abbrev pub only : Bool → ℕ → Next → Option Place
-only holds variables next = if holds then Some (place variables next) else None
+only holds variables next = if holds then Some (new_place variables next) else None
 
 -- the first word of a declaration, or of the section after all of them; a station has three variables, and there are at most
 -- 65,536 stations
@@ -59,14 +59,14 @@ begins variables Body word = only (bytes_eq word (codes "#0")) variables (Time 0
 
 -- before a section notes may stand
 abbrev pub before_section : ℕ → Section → List ℕ → Option Place
-before_section variables section word = if is_note word then Some (place variables (Note section)) else begins variables section word
+before_section variables section word = if is_note word then Some (new_place variables (Note section)) else begins variables section word
 
 -- within a note any words stand up to `$end`
 abbrev pub in_note : ℕ → Section → List ℕ → Option Place
-in_note variables section word = Some (place variables (if is_end word then Before section else Note section))
+in_note variables section word = Some (new_place variables (if is_end word then Before section else Note section))
 
 abbrev pub in_timescale : ℕ → List ℕ → Option Place
-in_timescale variables word = Some (place variables (if is_end word then Before Scope else Inside Timescale 1))
+in_timescale variables word = Some (new_place variables (if is_end word then Before Scope else Inside Timescale 1))
 
 -- `$scope module lid $end`
 unfoldable pub in_scope : ℕ → ℕ → List ℕ → Option Place
@@ -117,7 +117,7 @@ token_set variables at value (Some n) = only (is_token n) variables (Set at n va
 abbrev pub change : ℕ → ℕ → ℕ → List ℕ → Option Place
 change variables at mark rest =
     if (mark == 48) || (mark == 49) then bit_set variables at (mark - 48) (variable_of variables rest)
-    else if mark == 98 then token_read variables at (token_of rest)
+    else if mark == 98 then token_read variables at (token_in_bits rest)
     else None
 
 -- a time or a change after `#at`; after a change a time must come, so that none is left after the last
@@ -156,6 +156,6 @@ going_on line (Some p) more = more p
 
 -- the place at the end of some words that come after a word on line `last`, or the line of the first word by which no text of the
 -- form goes on; of the last where they end too early
-abbrev pub run : ℕ → Place → List (ℕ × List ℕ) → Result Place ℕ
-run last p [] = ended last p
-run last p (word ∷ words) = going_on word.0 (step p word.1) (λ q. run word.0 q words)
+abbrev pub read_words : ℕ → Place → List (ℕ × List ℕ) → Result Place ℕ
+read_words last p [] = ended last p
+read_words last p (word ∷ words) = going_on word.0 (step p word.1) (λ q. read_words word.0 q words)

@@ -34,8 +34,8 @@ bits_on n [] = n
 bits_on n (b ∷ bs) = bits_on (2 * n + (b - 48)) bs
 
 -- the token that BITS stand for
-unfoldable pub token_of : List ℕ → Option ℕ
-token_of word = if are_bits word then Some (bits_on 0 word) else None
+unfoldable pub token_in_bits : List ℕ → Option ℕ
+token_in_bits word = if are_bits word then Some (bits_on 0 word) else None
 
 -- a number by its last binary digits, at most so many and without leading zeros
 abbrev pub binary_by : ℕ → ℕ → List ℕ

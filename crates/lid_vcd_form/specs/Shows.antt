@@ -5,7 +5,7 @@ use Rattle.lid_texts_runs.specs.declared.trace.Trace.{Trace}
 use Rattle.lid_vcd_form.specs.declared.form.Next.{Next}
 use Rattle.lid_vcd_form.specs.declared.form.Next.TheVariants.{Time, Set, Bits}
 use Rattle.lid_vcd_form.specs.declared.form.Place.{Place}
-use Rattle.lid_vcd_form.specs.Form.{start, step, run}
+use Rattle.lid_vcd_form.specs.Form.{start, step, read_words}
 use Rattle.lid_vcd_form.specs.Words.{placed_words}
 
 -- a station as its three variables show it: the token counts where it is valid
@@ -63,7 +63,7 @@ trace_of words (Err line) = Err line
 
 -- the trace that a text shows, or the line of the word at which it is not of the form
 unfoldable pub wave_of : List ℕ → Result Trace ℕ
-wave_of bytes = trace_of (placed_words bytes) (run 0 start (placed_words bytes))
+wave_of bytes = trace_of (placed_words bytes) (read_words 0 start (placed_words bytes))
 
 -- a text is of the form and shows this trace
 abbrev pub Wave : List ℕ → Trace → Type 0

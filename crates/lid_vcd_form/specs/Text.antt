@@ -46,9 +46,9 @@ abbrev pub cell_lines : ℕ → Shown → List Words
 cell_lines n cell = bit_words n cell.valid ∷ bit_words (n + 1) cell.stop ∷ token_words (n + 2) cell.token ∷ []
 
 -- all variables from n on
-abbrev pub all_lines : ℕ → List Shown → List Words
-all_lines n [] = []
-all_lines n (cell ∷ cells) = cell_lines n cell ++ all_lines (n + 3) cells
+abbrev pub shown_lines : ℕ → List Shown → List Words
+shown_lines n [] = []
+shown_lines n (cell ∷ cells) = cell_lines n cell ++ shown_lines (n + 3) cells
 
 abbrev pub bit_change : ℕ → Bool → Bool → List Words
 bit_change n true true = []
@@ -96,7 +96,7 @@ later_lines stations k (suc left) before cells =
 abbrev pub body_lines : ℕ → ℕ → List Shown → List Words
 body_lines stations zero cells = time_words 0 ∷ []
 body_lines stations (suc left) cells =
-    time_words 0 ∷ (all_lines 0 (take stations cells) ++ later_lines stations 1 left (take stations cells) (drop stations cells))
+    time_words 0 ∷ (shown_lines 0 (take stations cells) ++ later_lines stations 1 left (take stations cells) (drop stations cells))
 
 -- the text of a trace
 unfoldable pub wave_text : Trace → List ℕ

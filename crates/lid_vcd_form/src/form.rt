@@ -2,7 +2,7 @@
 
 ghost use Rattle.std.specs.Prelude.{◌≡◌, ℕ, ◌∷◌, Option, if◌then◌else◌};
 ghost use Rattle.lid_base.specs.Numbers.{number_below};
-ghost use Rattle.lid_vcd_form.specs.Ids.{variable_of, token_of};
+ghost use Rattle.lid_vcd_form.specs.Ids.{variable_of, token_in_bits};
 ghost use Rattle.lid_vcd_form.specs.Form.{later, bit_set, token_read, token_set, change, in_body, step, start, is_time};
 ghost use Rattle.lid_vcd_form.specs.Shows.{time_of};
 
@@ -78,7 +78,7 @@ fn variable_set(variables: u32, at: u32, value: u32, id: &[u8], token: bool) -> 
 
 /// The place after the bits of a token.
 fn token_read(variables: u32, at: u32, bits: &[u8]) -> Option<Place>
-    ensures { result ≡ token_read variables at (token_of bits.now) }
+    ensures { result ≡ token_read variables at (token_in_bits bits.now) }
 {
     match token_of(bits) {
         Some(value) if variables > 0 => Some(Place {

@@ -3,7 +3,7 @@
 ghost use Rattle.std.specs.Prelude.{◌≡◌, ℕ, ◌-◌, ◌<◌, ◌≤◌, ◌++◌, ◌/◌, length, bytes_eq, IfSome, OnOk, true};
 ghost use Rattle.std.specs.List.{list_all};
 ghost use Rattle.lid_base.specs.Lists.{Keeps};
-ghost use Rattle.lid_vcd_form.specs.Ids.{id_of, id_value, variable_of, is_bit, are_bits, bits_on, token_of, binary_by, binary, is_token, width_of, ending_of};
+ghost use Rattle.lid_vcd_form.specs.Ids.{id_of, id_value, variable_of, is_bit, are_bits, bits_on, token_in_bits, binary_by, binary, is_token, width_of, ending_of};
 ghost use Rattle.lid_vcd_form.specs.Form.{is_number, is_stem, is_name};
 
 use lid_base::{is_same, number_below};
@@ -90,9 +90,9 @@ fn bits_value(word: &[u8]) -> u32
 }
 
 /// The token that binary digits stand for.
-#[tactic(auto, unfolding(crate::specs::Ids::token_of))]
+#[tactic(auto, unfolding(crate::specs::Ids::token_in_bits))]
 pub(crate) fn token_of(word: &[u8]) -> Option<u32>
-    ensures { result ≡ token_of word.now }
+    ensures { result ≡ token_in_bits word.now }
 {
     if are_bits(word) {
         Some(bits_value(word))

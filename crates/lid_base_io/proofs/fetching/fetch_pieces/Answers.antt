@@ -3,7 +3,7 @@ use Rattle.std.proofs.lemmas.List.{length-take, length-drop, length-append}
 use Rattle.lid_base.proofs.Results.{given_err}
 use Rattle.lid_base_io.specs.Transfer.{FetchedNext}
 use Rattle.lid_base.specs.declared.outside.Fetch.{Fetch}
-use Rattle.lid_base_io.specs.Calls.{CameAs, IsGoing}
+use Rattle.lid_base_io.specs.Calls.{CameAs, FetchesSoFar}
 use Rattle.lid_base_io.proofs.Fetches.{IsStart, start_begins, start_more, start_ended, start_full}
 use Rattle.lid_base_io.proofs.Going.{begins_as, goes_on_as, ended_as, stopped_as, full_as}
 use Rattle.lid_base_io.proofs.fetching.fetch_pieces.Goals as goal
@@ -17,7 +17,7 @@ loop-bytes-init g c =
       start = subst (IsStart held) (sym c.new-bytes.ensures.items) (start_begins held);
       short = omega (arith, none);
       calls =
-          subst (λ (n : ℕ). CameAs calls calls (IsGoing g.S.Shelf.whole held c.args.name.now c.args.limit n)) (sym none)
+          subst (λ (n : ℕ). CameAs calls calls (FetchesSoFar g.S.Shelf.whole held c.args.name.now c.args.limit n)) (sym none)
           (begins_as g.S.Shelf.whole held c.args.name.now c.args.limit calls);
       size = c.requires.room;
       still = λ q. refl;

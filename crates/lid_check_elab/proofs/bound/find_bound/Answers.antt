@@ -2,7 +2,7 @@ use Rattle.std.proofs.Common.{◌≡◌, ℕ, List, Some, map, sym, ◌∙◌, a
 use Rattle.std.proofs.lemmas.Result.{IfOk-weaker}
 use Rattle.lid_design.specs.Models.{instance_number}
 use Rattle.lid_check_drivers.specs.Locals.{actual_for}
-use Rattle.lid_check_elab.specs.Templates.{place_in}
+use Rattle.lid_check_elab.specs.Templates.{net_place}
 use Rattle.lid_check_elab.proofs.Binding.{sub_reached, bound_in, formals_once}
 use Rattle.lid_check_elab.proofs.Driving.{model_here}
 use Rattle.lid_check_elab.proofs.bound.find_bound.Goals as goal
@@ -25,6 +25,6 @@ returns-in-Some c =
     IfOk-weaker c.find_places.result _ _
     (λ places same.
     same
-    ∙ ap (λ (ns : List (List ℕ)). map (λ formal. place_in d k (actual_for c.args.inst.now formal)) ns) c.data_inputs.ensures
+    ∙ ap (λ (ns : List (List ℕ)). map (λ formal. net_place d k (actual_for c.args.inst.now formal)) ns) c.data_inputs.ensures
     ∙ sym (bound_in d k c.args.i c.in-Some.sub c.args.inst.now c.requires.inst number))
     c.find_places.ensures

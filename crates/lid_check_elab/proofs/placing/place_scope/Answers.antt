@@ -5,7 +5,7 @@ use Rattle.lid_design.specs.Elaboration.{model_nets}
 use Rattle.lid_check_elab.specs.Elaborations.{shown_driver}
 use Rattle.lid_check_elab.specs.Numbers.{start_of}
 use Rattle.lid_check_elab.specs.Templates.{seen_around}
-use Rattle.lid_check_elab.specs.Scopes.{picked}
+use Rattle.lid_check_elab.specs.Scopes.{picked_driver}
 use Rattle.lid_check_drivers.proofs.Limits.{few_columns}
 use Rattle.lid_check_elab.proofs.Numbering.{within}
 use Rattle.lid_check_elab.proofs.Outer.{picks_fit, placed_more, same_network, on_ok, lengths}
@@ -44,4 +44,4 @@ pub returns-clause-long : goal.returns-clause-long
 returns-clause-long c =
     let d = c.args.judged.now in
     let picks : length c.as_slice-3.result.now ≡ length (model_nets d c.args.scope.model) = ap length c.as_slice-3.ensures ∙ c.scope_template-template.ensures.picked.long in
-    on_ok (λ whole. lengths (shown_driver d) (picked d c.args.scope.start c.as_slice.result.now (seen_around c.around_of-around.result) c.as_slice-2.result.now) c.push_drivers.new.drivers.items c.args.drivers.now.items c.as_slice-3.result.now whole ∙ ap (λ (n : ℕ). length c.args.drivers.now.items + n) picks) c.push_drivers.result c.push_drivers.ensures
+    on_ok (λ whole. lengths (shown_driver d) (picked_driver d c.args.scope.start c.as_slice.result.now (seen_around c.around_of-around.result) c.as_slice-2.result.now) c.push_drivers.new.drivers.items c.args.drivers.now.items c.as_slice-3.result.now whole ∙ ap (λ (n : ℕ). length c.args.drivers.now.items + n) picks) c.push_drivers.result c.push_drivers.ensures

@@ -6,7 +6,7 @@ use Rattle.lid_check_elab.specs.Elaborations.{shown_driver}
 use Rattle.lid_check_elab.specs.Templates.{shown_local, seen_around, placed_driver}
 use Rattle.std.specs.List.{All}
 use Rattle.lid_check_elab.specs.declared.template.LocalDriver.{LocalDriver}
-use Rattle.lid_check_elab.specs.Scopes.{picked, IsSmallAt}
+use Rattle.lid_check_elab.specs.Scopes.{picked_driver, IsSmallAt}
 use Rattle.lid_check_elab.proofs.Steps.{pushed_more}
 use Rattle.lid_check_elab.proofs.placing.push_drivers.Goals as goal
 
@@ -16,7 +16,7 @@ loop-pick-preserved c =
     let picks = c.args.picks.now in
     let all = c.args.locals.now in
     let local = c.index-locals-pick.result in
-    let driver = picked c.args.judged.now c.args.base.start c.args.base.offsets.now (seen_around c.args.base.around) all in
+    let driver = picked_driver c.args.judged.now c.args.base.start c.args.base.offsets.now (seen_around c.args.base.around) all in
     let here : slice_get all (get_or picks i 0) ≡ Some local = slice_get_read all (length all) (get_or picks i 0) local refl (below_at all picks i c.requires.picks c.loop-pick-test.true) c.index-locals-pick.is in
     let shown : shown_driver c.args.judged.now c.in_ok-place_driver.field-0 ≡ driver (get_or picks i 0) =
     c.in_ok-place_driver.ensures ∙ sym (ap (λ (o : Option LocalDriver). option_map_or (λ x. placed_driver c.args.base.start c.args.base.offsets.now (seen_around c.args.base.around) (shown_local c.args.judged.now x)) o (from_input 0)) here) in

@@ -5,7 +5,7 @@ use Rattle.lid_station.specs.declared.pair.Pair.{Pair}
 use Rattle.lid_shell.specs.declared.actor.Actor.{Actor}
 use Rattle.lid_walk_machine.specs.Setups.{plan}
 use Rattle.lid_walk_machine.specs.Machine.{sweeps}
-use Rattle.lid_free.specs.FreeRuns.{state_at}
+use Rattle.lid_free.specs.FreeRuns.{state_of_counts}
 use Rattle.lid_free.specs.Gathering.{fired_of}
 use Rattle.lid_free.proofs.Ended.{ending}
 use Rattle.lid_free.proofs.run.end_run.Goals as goal
@@ -15,7 +15,7 @@ returns c = λ m workers made g.
     let (m0, w0, made0, g0, f0, p0) = c.requires in
     let pairs = c.args.left.plain.pairs.items in
     let actors = c.args.left.actors.items in
-    let st = state_at (fired_of actors) in
+    let st = state_of_counts (fired_of actors) in
     let walks = c.adopt-walk.ensures m st g.rules g.actors_are g.board in
     let settled = c.settle-sweeps.ensures m st walks (λ v h. refl) in
     let fired : c.note_fired.new.fired ≡ fired_of actors = c.note_fired.ensures ∙ ap fired_of c.as_slice.ensures.value in

@@ -1,12 +1,12 @@
 use Rattle.std.proofs.Common.{◌≡◌, ℕ, ◌%◌, refl, sym, ◌∙◌, ap, arith}
 use Rattle.lid_base.specs.Each.{from_each}
-use Rattle.lid_gen.specs.Draws.{moved, after}
+use Rattle.lid_gen.specs.Draws.{moved, state_after}
 use Rattle.lid_gen.specs.Designs.{count_places, buffer, buffer_at}
 use Rattle.lid_gen.proofs.Drawing.{each_pushed, after_next}
 use Rattle.lid_gen.proofs.design.root_cells.Goals as goal
 
 pub loop-j-init : goal.loop-j-init
-unfolding after
+unfolding state_after
 loop-j-init c = (c.in_ok-cells.ensures.items, refl)
 
 pub loop-j-preserved : goal.loop-j-preserved

@@ -1,11 +1,11 @@
 use Rattle.std.proofs.Common.{ℕ, ◌*◌, ◌%◌, refl, sym, ◌∙◌, ap}
-use Rattle.lid_gen.specs.Draws.{moved, after, drawn}
+use Rattle.lid_gen.specs.Draws.{moved, state_after, drawn}
 use Rattle.lid_gen.specs.Designs.{count_places, shell, shell_at}
 use Rattle.lid_gen.proofs.Drawing.{each_pushed, after_next, after_two}
 use Rattle.lid_gen.proofs.design.root_insts.Goals as goal
 
 pub loop-i-init : goal.loop-i-init
-unfolding after
+unfolding state_after
 loop-i-init c = (c.in_ok-insts.ensures.items, refl)
 
 pub loop-i-preserved : goal.loop-i-preserved

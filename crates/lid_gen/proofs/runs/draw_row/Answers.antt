@@ -1,10 +1,10 @@
 use Rattle.std.proofs.Common.{ℕ, ◌%◌, ◌==◌, refl, sym, ◌∙◌, ap}
-use Rattle.lid_gen.specs.Draws.{moved, after, drawn}
+use Rattle.lid_gen.specs.Draws.{moved, state_after, drawn}
 use Rattle.lid_gen.proofs.Drawing.{each_pushed, after_next}
 use Rattle.lid_gen.proofs.runs.draw_row.Goals as goal
 
 pub loop-init : goal.loop-init
-unfolding after
+unfolding state_after
 loop-init c = (c.in_ok-bits.ensures.items, refl)
 
 pub loop-preserved : goal.loop-preserved

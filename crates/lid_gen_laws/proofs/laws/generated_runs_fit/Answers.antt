@@ -2,7 +2,7 @@ use Rattle.std.proofs.Common.{◌≡◌, ◌+◌, ◌*◌, ◌≤◌, not, lengt
 use Rattle.lid_design.specs.Columns.{is_clock, data_inputs}
 use Rattle.lid_base.specs.Each.{from_each}
 use Rattle.lid_check_laws.proofs.Below.{root_free}
-use Rattle.lid_gen.specs.Draws.{first_state, after, drawn}
+use Rattle.lid_gen.specs.Draws.{first_state, state_after, drawn}
 use Rattle.lid_gen.specs.Designs.{input_name, root_model, made, generated}
 use Rattle.lid_gen.specs.Runs.{design_draws, row_from, generated_rows, generated_relays}
 use Rattle.lid_gen_laws.proofs.Sizes.{some, few}
@@ -21,17 +21,17 @@ returns-clause-columns c seed n rows fine =
 
 pub returns-clause-rows : goal.returns-clause-rows
 unfolding generated_rows
-returns-clause-rows c seed n rows = each_length (λ t. row_from (after (4 * t) (after (design_draws n) (first_state seed)))) 0 rows
+returns-clause-rows c seed n rows = each_length (λ t. row_from (state_after (4 * t) (state_after (design_draws n) (first_state seed)))) 0 rows
 
 pub returns-clause-wide : goal.returns-clause-wide
 unfolding generated_rows
-returns-clause-wide c seed n rows = all_each (λ row. length row ≡ 4) (λ t. row_from (after (4 * t) (after (design_draws n) (first_state seed)))) 0 rows (λ t. refl)
+returns-clause-wide c seed n rows = all_each (λ row. length row ≡ 4) (λ t. row_from (state_after (4 * t) (state_after (design_draws n) (first_state seed)))) 0 rows (λ t. refl)
 
 pub returns-clause-relays : goal.returns-clause-relays
 unfolding generated_relays
-returns-clause-relays c seed n rows channels = each_length (λ k. drawn (after (design_draws n + 4 * rows) (first_state seed)) k 4) 0 channels
+returns-clause-relays c seed n rows channels = each_length (λ k. drawn (state_after (design_draws n + 4 * rows) (first_state seed)) k 4) 0 channels
 
 pub returns-clause-few : goal.returns-clause-few
 unfolding generated_relays
 returns-clause-few c seed n rows channels =
-    all_each (λ relays. relays ≤ 3) (λ k. drawn (after (design_draws n + 4 * rows) (first_state seed)) k 4) 0 channels (λ k. omega arith)
+    all_each (λ relays. relays ≤ 3) (λ k. drawn (state_after (design_draws n + 4 * rows) (first_state seed)) k 4) 0 channels (λ k. omega arith)

@@ -5,7 +5,7 @@ use Rattle.lid_stations.specs.Placements.{Links, links_of}
 use Rattle.lid_stations_text.specs.declared.form.Form.{Form}
 use Rattle.lid_stations_text.specs.Forms.{has_form}
 use Rattle.lid_stations_text.specs.Faults.{channel_of, is_of, place_where}
-use Rattle.lid_stations_text.specs.Places.{IsPlaced}
+use Rattle.lid_stations_text.specs.Places.{AreFirstLines}
 use Rattle.lid_stations_text.proofs.LineFaults.{told_twice, told_by_amount, is_channel}
 use Rattle.lid_stations_text.proofs.judging.judge_line.Goals as goal
 
@@ -16,7 +16,7 @@ well_said form words line b e is yes' = sym (ap (has_form form) e) ∙ sym is �
 named_said : (l : Links) (words line : List (List ℕ)) (r : Option ℕ) (c : ℕ) → words ≡ line → r ≡ channel_of l words → r ≡ Some c → channel_of l line ≡ Some c
 named_said l words line r c e is found = sym (ap (channel_of l) e) ∙ sym is ∙ found
 
-stands_said : (l : Links) (earlier : List Line) (places : List (Option ℕ)) (c : ℕ) (b r : Bool) → IsPlaced l earlier places → c < length l.channels → r ≡ is_some (get_or places c None) → r ≡ b → is_some (place_where (is_of l c) 0 earlier) ≡ b
+stands_said : (l : Links) (earlier : List Line) (places : List (Option ℕ)) (c : ℕ) (b r : Bool) → AreFirstLines l earlier places → c < length l.channels → r ≡ is_some (get_or places c None) → r ≡ b → is_some (place_where (is_of l c) 0 earlier) ≡ b
 stands_said l earlier places c b r p inside is e = ap is_some (sym (p.each c inside)) ∙ sym is ∙ e
 
 pub offset_bounds-places-channel : goal.offset_bounds-places-channel

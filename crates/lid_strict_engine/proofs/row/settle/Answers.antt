@@ -5,7 +5,7 @@ use Rattle.std.proofs.lemmas.Option.{slice_get_read, slice_get-map}
 use Rattle.lid_base.proofs.Lists.{all_at}
 use Rattle.lid_design.specs.declared.FlatCover.{FlatCover}
 use Rattle.lid_strict_engine.specs.Programs.{shown_step, program_covers, IsStep}
-use Rattle.lid_strict_engine.specs.Rows.{AreRightAt, after}
+use Rattle.lid_strict_engine.specs.Rows.{AreRightAt, known_after}
 use Rattle.lid_strict_engine.proofs.Settling.{settled_next}
 use Rattle.lid_strict_engine.proofs.row.settle.Goals as goal
 
@@ -45,5 +45,5 @@ returns-clause-bits c f known row earlier agrees =
     let covers = program_covers p in
     let long : length (program_covers p) ≡ length p.steps.items = length-map p.steps.items (shown_step p.reads.items p.cubes.items) in
     let done : length (program_covers p) ≤ c.loop-i.i = omega arith in
-    subst (λ (cs : List FlatCover). AreRightAt f (after known cs) c.loop-i.bits) (take_all c.loop-i.i (program_covers p) done)
+    subst (λ (cs : List FlatCover). AreRightAt f (known_after known cs) c.loop-i.bits) (take_all c.loop-i.i (program_covers p) done)
     (c.loop-i.invariant.1 f known row earlier agrees)

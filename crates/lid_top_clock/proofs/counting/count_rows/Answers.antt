@@ -1,5 +1,5 @@
 use Rattle.std.proofs.Common.{length, refl, sym, ap, subst}
-use Rattle.lid_top_clock.specs.Clocking.{HasRows}
+use Rattle.lid_top_clock.specs.Clocking.{FileHasRows}
 use Rattle.lid_top_clock.specs.Stops.{stop_of_feed}
 use Rattle.lid_top_script.specs.Scripts.{rows_limit, vec_reading}
 use Rattle.lid_top_script.specs.Causes.{Misses}
@@ -10,7 +10,7 @@ use Rattle.lid_top_clock.proofs.counting.count_rows.Goals as goal
 pub returns-in-Ok-clause-ok : goal.returns-in-Ok-clause-ok
 returns-in-Ok-clause-ok g c =
     let held = g.S.Shelf.held c.args.shelf.now in
-    subst (λ (w : Wrapping). HasRows held w.design c.args.vec.now c.in-Ok.count) c.wrapped.view_is
+    subst (λ (w : Wrapping). FileHasRows held w.design c.args.vec.now c.in-Ok.count) c.wrapped.view_is
     (has_rows held c.wrapped.inside.checked c.args.vec.now c.inputs.result.now (length c.outputs.result.now) c.inputs.ensures.names (ap length c.outputs.ensures.names)
     c.in-Ok.count c.in-Ok.ensures.counted)
 

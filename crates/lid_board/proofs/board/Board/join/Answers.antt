@@ -4,7 +4,7 @@ use Rattle.lid_board.specs.Owners.{start_ends}
 use Rattle.lid_board.specs.Parting.{or_else}
 use Rattle.lid_board.specs.Relation.{AreWithin}
 use Rattle.lid_board.specs.Ties.{IsTied}
-use Rattle.lid_board.specs.Views.{Ends, at}
+use Rattle.lid_board.specs.Views.{EndTable, at}
 use Rattle.lid_board.proofs.Numbers.{written_long, tied_merged, within_merged}
 use Rattle.lid_board.proofs.Parting.{at_merged}
 use Rattle.lid_base.proofs.Lists.{refilled}
@@ -25,7 +25,7 @@ invariant_of-hand c = record {
 }
 
 pub returns-clause-joined : goal.returns-clause-joined
-returns-clause-joined c end = ap (λ (e : Ends). at e end) c.join_both.ensures.both ∙ at_merged c.args.hand.now.seat.me.0.ends c.args.other.seat.me.0.ends end
+returns-clause-joined c end = ap (λ (e : EndTable). at e end) c.join_both.ensures.both ∙ at_merged c.args.hand.now.seat.me.0.ends c.args.other.seat.me.0.ends end
 
 pub returns-clause-of : goal.returns-clause-of
 returns-clause-of c = record {

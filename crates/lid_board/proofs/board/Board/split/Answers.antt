@@ -4,7 +4,7 @@ use Rattle.lid_board.specs.Owners.{start_ends}
 use Rattle.lid_board.specs.Parting.{is_chosen}
 use Rattle.lid_board.specs.Relation.{AreWithin}
 use Rattle.lid_board.specs.Ties.{IsTied}
-use Rattle.lid_board.specs.Views.{Ends, at}
+use Rattle.lid_board.specs.Views.{EndTable, at}
 use Rattle.lid_board.proofs.Numbers.{written_at, written_long, tied_left, tied_right, within_left, within_right}
 use Rattle.lid_board.proofs.Parting.{at_left, at_right}
 use Rattle.lid_board.proofs.board.Board.split.Goals as goal
@@ -30,10 +30,10 @@ invariant_of-result c = record {
 }
 
 pub returns-clause-kept : goal.returns-clause-kept
-returns-clause-kept c end = ap (λ (e : Ends). at e end) c.split_as-seat.ensures.left ∙ at_left (is_chosen c.args.ends.now) c.args.hand.now.seat.me.0.ends end
+returns-clause-kept c end = ap (λ (e : EndTable). at e end) c.split_as-seat.ensures.left ∙ at_left (is_chosen c.args.ends.now) c.args.hand.now.seat.me.0.ends end
 
 pub returns-clause-given : goal.returns-clause-given
-returns-clause-given c end = ap (λ (e : Ends). at e end) c.split_as-seat.ensures.right ∙ at_right (is_chosen c.args.ends.now) c.args.hand.now.seat.me.0.ends end
+returns-clause-given c end = ap (λ (e : EndTable). at e end) c.split_as-seat.ensures.right ∙ at_right (is_chosen c.args.ends.now) c.args.hand.now.seat.me.0.ends end
 
 pub returns-clause-of : goal.returns-clause-of
 returns-clause-of c = record {

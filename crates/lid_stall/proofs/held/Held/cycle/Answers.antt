@@ -2,7 +2,7 @@
 use Rattle.std.proofs.Common.{◌≡◌, ℕ, ◌+◌, ◌*◌, ◌<◌, ◌≤◌, ◌^◌, ◌||◌, cond, List, length, slice_get, sym, ◌∙◌, ap, subst, true≢false, arith}
 use Rattle.lid_clock.specs.Lives.{Holds}
 use Rattle.lid_stall_text.specs.declared.stalls.Stall.{Stall}
-use Rattle.lid_stall.specs.Places.{due_of, place_after}
+use Rattle.lid_stall.specs.Places.{due_of, next_place}
 use Rattle.lid_stall.proofs.Delays.{is_over, few_cycles}
 use Rattle.lid_stall.proofs.Steps.{holds_due, cycled}
 use Rattle.lid_stall.proofs.held.Held.cycle.Goals as goal
@@ -45,5 +45,5 @@ returns-clause-ran c l k g held _ =
     let is : c.due-stall.result ≡ due_of (slice_get x.stalls x.next) k = due ∙ ap (due_of (slice_get x.stalls x.next)) held.made_is in
     let holds = subst (λ (stall : Stall). Holds l k stall.source stall.sink) (sym is) (holds_due l x.stalls x.next k held.by held.ascend held.at) in
     cycled l k g x held below c.cycle_held.new.self (c.cycle_held.ensures.ran l k g held.ran holds c.if-not-cycle_held.false) c.after-self.result c.counted.result
-    (c.after-self.ensures ∙ ap (λ (stalls : List Stall). place_after (slice_get stalls x.next) x.next x.made) c.as_slice-2.ensures)
+    (c.after-self.ensures ∙ ap (λ (stalls : List Stall). next_place (slice_get stalls x.next) x.next x.made) c.as_slice-2.ensures)
     (c.counted.ensures ∙ ap (λ (stall : Stall). cond (stall.source || stall.sink) 1 0) due)
