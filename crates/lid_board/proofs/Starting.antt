@@ -153,7 +153,7 @@ module _ (firsts : List (Option ℕ)) (caps : List ℕ) (streams : List (List �
           sizes = λ station there. sym (plan_cap station (omega arith));
           two = λ station there. All-get_or (λ (cap : ℕ). 2 ≤ cap) caps station 0 there two;
           most = λ station there. All-get_or (λ (cap : ℕ). cap ≤ 16) caps station 0 there most;
-          first_ends = λ station there. numbers.each station (omega arith) ∙ sym (plan_first station (omega arith));
+          starts = λ station there. numbers.each station (omega arith) ∙ sym (plan_first station (omega arith));
           low = λ station there.
               let h = numbers.each station (omega arith) in
               let l = low_first (λ s inside. All-get_or (λ (cap : ℕ). cap ≤ 16) caps s 0 (omega arith) most) station (omega arith) in
