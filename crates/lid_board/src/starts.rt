@@ -51,7 +51,7 @@ fn lay_station(words: &mut Vec<u64>, word: u64, cap: u32) -> Result<(), AllocErr
 fn lay(alloc: Global, firsts: &[Option<u32>], caps: &[u32]) -> Result<Laid, AllocError>
     requires { CanStart firsts.now caps.now }
     ensures words { IfOk result (λ laid. AreLaid firsts.now caps.now laid.words.items (length firsts.now)) }
-    ensures first_ends { IfOk result (λ laid. AreFirsts caps.now laid.starts.items (length firsts.now)) }
+    ensures starts { IfOk result (λ laid. AreFirsts caps.now laid.starts.items (length firsts.now)) }
 {
     let mut words = Vec::new(alloc);
     words.push(0)?;
@@ -88,7 +88,7 @@ struct Ground {
 fn lay_ground(alloc: Global, firsts: &[Option<u32>], caps: &[u32]) -> Result<Ground, AllocError>
     requires { CanStart firsts.now caps.now }
     ensures words { IfOk result (λ ground. AreLaid firsts.now caps.now ground.words.items (length firsts.now)) }
-    ensures first_ends { IfOk result (λ ground. AreFirsts caps.now ground.starts.items (length firsts.now)) }
+    ensures starts { IfOk result (λ ground. AreFirsts caps.now ground.starts.items (length firsts.now)) }
     ensures caps { IfOk result (λ ground. ground.caps.items ≡ caps.now) }
     ensures ends { IfOk result (λ ground. AreNumbers firsts.now ground.ends.items (length firsts.now)) }
 {
