@@ -1,0 +1,26 @@
+use Rattle.std.proofs.Common.{◌≡◌, ◌+◌, ◌<◌, ℕ, length, Some, slice_get, refl, subst, sym, ◌∙◌, arith}
+use Rattle.std.specs.List.{AllByRecursion}
+use Rattle.std.proofs.lemmas.List.{length-set}
+use Rattle.std.proofs.lemmas.Option.{slice_get_read}
+use Rattle.lid_base.proofs.Lists.{all_at}
+use Rattle.lid_strict_engine.specs.Programs.{program_covers, IsStep}
+use Rattle.lid_strict_widths.specs.Groups.{RightUpTo}
+use Rattle.lid_strict_widths.proofs.Going.{right_next}
+use Rattle.lid_strict_widths.proofs.settling.settle_by_rows.Goals as goal
+
+pub loop-i-preserved : goal.loop-i-preserved
+loop-i-preserved c =
+    let p = c.args.x.now.program in
+    let i = c.loop-i.i in
+    let within = c.requires.group.within in
+    let here : slice_get p.steps.items i ≡ Some c.index-step.result.now = slice_get_read p.steps.items (length p.steps.items) i c.index-step.result.now refl (omega arith) c.index-step.ensures in
+    let is : IsStep p.nets 6 p.reads.items p.cubes.items c.index-step.result.now = all_at (IsStep p.nets 6 p.reads.items p.cubes.items) p.steps.items i c.index-step.result.now c.requires.is.ready.steps here in
+    let below = is.out in
+    let size : length c.loop-i.bits ≡ p.nets + 1 = c.loop-i.invariant.0 ∙ c.requires.size in (
+      length-set c.loop-i.bits c.index-step.result.now.out c.value_of_step-value.result ∙ c.loop-i.invariant.0,
+      right_next p c.index-step.result.now i c.args.group.start c.index-step.result.now.out c.args.bits.now c.loop-i.bits c.value_of_step-value.result here (omega arith) refl
+          c.value_of_step-value.ensures c.loop-i.invariant.1,
+    )
+
+pub returns-clause-bits : goal.returns-clause-bits
+returns-clause-bits c = subst (λ (n : ℕ). RightUpTo (program_covers c.args.x.now.program) c.args.group.start c.args.bits.now n c.loop-i.bits) (let order = c.requires.group.order in omega arith) c.loop-i.invariant.1
