@@ -1,8 +1,9 @@
 //! A program gets its groups.
 
-ghost use Rattle.std.specs.Prelude.{◌≡◌, ◌<◌, ◌≤◌, true, length, map, IfOk};
+ghost use Rattle.std.specs.Prelude.{◌≡◌, ◌<◌, length, map, IfOk};
+ghost use Rattle.std.specs.List.{flat_map};
 ghost use Rattle.lid_strict_engine.specs.Programs.{IsReadyProgram};
-ghost use Rattle.lid_strict_widths.specs.Groups.{IsGroup, Tile, step_out, step_table, IsByWidth, FollowOn};
+ghost use Rattle.lid_strict_widths.specs.Groups.{IsGroup, Tile, step_out, step_table, own_reads, IsByWidth};
 
 use crate::group::{ByWidth, Group};
 use lid_strict_engine::{Program, ProgramStep};
@@ -30,13 +31,17 @@ fn tables_of(alloc: Global, steps: &[ProgramStep]) -> Result<Vec<u64>, AllocErro
     Ok(tables)
 }
 
-/// Whether a step is as wide as the one before it, and has its reads after those.
-fn follows(before: ProgramStep, step: ProgramStep) -> bool
-    ensures { result ≡ true → FollowOn before step }
+/// The nets that steps read, step after step.
+fn reads_of(alloc: Global, program: &Program) -> Result<Vec<u32>, AllocError>
+    requires { IsReadyProgram program.now }
+    ensures { IfOk result (λ reads. reads.items ≡ flat_map (own_reads program.now.reads.items) program.now.steps.items) }
 {
-    step.width == before.width
-        && step.first >= before.width
-        && step.first - before.width == before.first
+    let mut reads = Vec::with_capacity(alloc, program.reads.len())?;
+    for step in program.steps.as_slice() {
+        let first = step.first as usize;
+        reads.extend_from_slice(&program.reads.as_slice()[first..first + step.width as usize])?;
+    }
+    Ok(reads)
 }
 
 /// The longest group from a step on.
@@ -46,16 +51,12 @@ fn group_from(steps: &[ProgramStep], start: usize) -> Group
     ensures more { start < result.end }
     ensures group { IsGroup steps.now result }
 {
+    let width = steps[start].width;
     let mut end = start + 1;
-    while end < steps.len() && follows(steps[end - 1], steps[end]) {
+    while end < steps.len() && steps[end].width == width {
         end += 1;
     }
-    Group {
-        start,
-        end,
-        width: steps[start].width,
-        first: steps[start].first as usize,
-    }
+    Group { start, end, width }
 }
 
 /// Steps in groups.
@@ -84,11 +85,13 @@ pub fn by_width(program: Program) -> Result<ByWidth, AllocError>
     let alloc = *program.steps.allocator();
     let outs = outs_of(alloc, program.steps.as_slice())?;
     let tables = tables_of(alloc, program.steps.as_slice())?;
+    let reads = reads_of(alloc, &program)?;
     let groups = groups_of(alloc, program.steps.as_slice())?;
     Ok(ByWidth {
         program,
         outs,
         tables,
+        reads,
         groups,
     })
 }

@@ -2,7 +2,7 @@
 
 use lid_strict_engine::Program;
 
-/// Steps of a program that follow one another and read as many nets each, cover after cover.
+/// Steps of a program that follow one another and read as many nets each.
 #[derive(Clone, Copy)]
 pub struct Group {
     /// The place of the first step.
@@ -11,8 +11,6 @@ pub struct Group {
     pub end: usize,
     /// How many nets each step reads.
     pub width: u32,
-    /// The place of the first read of the first step.
-    pub first: usize,
 }
 
 /// A program, and beside it what a loop over steps of one width goes through.
@@ -21,8 +19,10 @@ pub struct ByWidth {
     pub program: Program,
     /// The net that each step writes.
     pub outs: Vec<u32>,
-    /// The truth table of each step; that of a wider one says nothing.
+    /// The truth table of each step; that of a wide one says nothing.
     pub tables: Vec<u64>,
+    /// The nets that steps read, step after step.
+    pub reads: Vec<u32>,
     /// All steps, in order.
     pub groups: Vec<Group>,
 }

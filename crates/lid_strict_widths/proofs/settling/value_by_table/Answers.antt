@@ -1,15 +1,15 @@
-use Rattle.std.proofs.Common.{◌<◌, subst, sym, ◌∙◌, ap}
+use Rattle.std.proofs.Common.{◌<◌, length, map, subst, sym, ◌∙◌, ap, arith}
+use Rattle.std.proofs.lemmas.List.{length-map}
+use Rattle.lid_strict_engine.specs.Rows.{bit_at}
 use Rattle.lid_strict_engine.specs.Truth.{is_set}
-use Rattle.lid_strict_widths.proofs.Going.{by_table}
+use Rattle.lid_strict_widths.proofs.Going.{table_exact, small_bits}
 use Rattle.lid_strict_widths.proofs.settling.value_by_table.Goals as goal
 
 pub bit_of-requires : goal.bit_of-requires
-bit_of-requires g c =
-    let s = c.requires.step in
-    subst (λ n. n < 64) (sym c.pack.ensures) (by_table c.args.program.now c.args.bits.now s.0 c.args.table c.args.first c.args.width c.as_slice.result.now s.1 c.as_slice.ensures.value).0
+bit_of-requires g c = subst (λ n. n < 64) (sym c.pack.ensures) (small_bits c.args.bits.now c.args.nets.now c.requires.few)
 
 pub returns : goal.returns
-returns g c s hand =
-    c.bit_of.ensures
-    ∙ ap (is_set c.args.table) c.pack.ensures
-    ∙ (by_table c.args.program.now c.args.bits.now s c.args.table c.args.first c.args.width c.as_slice.result.now hand c.as_slice.ensures.value).1
+returns g c cover is wide =
+    let long = length-map c.args.nets.now (bit_at c.args.bits.now) in
+    let few = c.requires.few in
+    c.bit_of.ensures ∙ ap (is_set c.args.table) c.pack.ensures ∙ table_exact c.args.table cover (map (bit_at c.args.bits.now) c.args.nets.now) is (omega arith) (omega arith)
