@@ -3,10 +3,13 @@
 
 mod building;
 mod group;
+mod levels;
+mod ordering;
 mod packing;
 mod rows;
 mod settling;
 
 pub use building::by_width;
 pub use group::{ByWidth, Group};
+pub use ordering::by_level;
 pub use settling::settle_by_width;
