@@ -9,6 +9,9 @@ use Rattle.lid_design.specs.Flat.{latch_out, latch_input, latch_init, ReadEarlie
 use Rattle.lid_check_parts.specs.Inner.{latches_of, driver_covers}
 use Rattle.lid_strict_engine.specs.Programs.{program_covers, IsReadyProgram}
 use Rattle.lid_strict_engine.specs.Rows.{bit_at, known_after}
+use Rattle.lid_strict_widths.specs.declared.group.ByWidth.{ByWidth}
+use Rattle.lid_strict_widths.specs.Groups.{IsByWidth}
+use Rattle.lid_strict_widths.specs.Orders.{ServesFor}
 use Rattle.lid_strict.specs.Networks.{rows_at}
 use Rattle.lid_strict.specs.declared.layout.Layout.{Layout}
 
@@ -64,6 +67,12 @@ pub record IsRunnable (p : Layout) : Type 0 where
   pub pairs : length p.places.items ≡ length p.ins.items
   pub earlier : ReadEarlier (known_first p) (program_covers p.program)
   pub all : (k : ℕ) → k < p.program.nets → Among k (known_after (known_first p) (program_covers p.program))
+
+-- what runs in place of the program of a layout
+pub record IsEngineOf (p : Layout) (x : ByWidth) : Type 0 where
+  pub is : IsByWidth x
+  pub nets : x.program.nets ≡ p.program.nets
+  pub serves : ServesFor p.program x.program
 
 -- the bits that latches hold in a row: first those that they begin with, later those of their inputs in
 -- the row before

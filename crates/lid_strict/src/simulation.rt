@@ -6,16 +6,18 @@ ghost use Rattle.lid_design.specs.Network.{Table, IsStrict};
 ghost use Rattle.lid_design.specs.Flat.{latch_init, latch_input};
 ghost use Rattle.lid_check_digraph.specs.Graphs.{IsOrder};
 ghost use Rattle.lid_check_elab.specs.Elaborations.{shown_driver};
+ghost use Rattle.lid_strict_engine.specs.Programs.{IsReadyProgram};
 ghost use Rattle.lid_strict_engine.specs.Rows.{bit_at};
 ghost use Rattle.lid_check_parts.specs.Parts.{HasCover};
 ghost use Rattle.lid_strict.specs.Networks.{driver_list, reads_of, AreHeldBelow, rows_at};
-ghost use Rattle.lid_strict.specs.Layouts.{IsRunnable, FitsRow, FitsTable};
+ghost use Rattle.lid_strict.specs.Layouts.{IsRunnable, IsEngineOf, FitsRow, FitsTable};
 
 use crate::layout::{Layout, lay_out};
 use lid_base::Items;
 use lid_check_elab::ColumnDriver;
 use lid_design::Design;
-use lid_strict_engine::{first_state, put_bits, put_state, settle, take_state};
+use lid_strict_engine::{first_state, put_bits, put_state, take_state};
+use lid_strict_widths::{ByWidth, by_level, by_width, settle_by_width};
 use std::alloc::{AllocError, Global};
 
 /// The bit of a number, and 0 where there is none.
@@ -46,17 +48,28 @@ fn gather(alloc: Global, bits: &[bool], numbers: &[u32]) -> Result<Items<bool>, 
     Ok(Items::from_vec(row))
 }
 
+/// The program of a layout as it is run: by level and width.
+fn engine_of(layout: &Layout) -> Result<ByWidth, AllocError>
+    requires { IsReadyProgram layout.now.program }
+    ensures { IfOk result (IsEngineOf layout.now) }
+{
+    let program = layout.program.copy()?;
+    by_width(by_level(program)?)
+}
+
 /// Fills the bits of a row, from what latches hold, and moves that on. It is compiled by itself, since
 /// such a loop was once slower when it was inlined into its callers.
 #[inline(never)]
 fn run_row(
     layout: &Layout,
+    engine: &ByWidth,
     row: &[bool],
     state: &mut [bool],
     inputs: &mut [bool],
     bits: &mut [bool],
 )
     requires runnable { IsRunnable layout.now }
+    requires engine { IsEngineOf layout.now engine.now }
     requires state { length state.old ≡ length layout.now.latches.items }
     requires inputs { length inputs.old ≡ length layout.now.places.items }
     requires bits { length bits.old ≡ layout.now.program.nets + 1 }
@@ -70,14 +83,15 @@ fn run_row(
     read_row(row, layout.places.as_slice(), inputs);
     put_state(bits, latches, state);
     put_bits(bits, layout.ins.as_slice(), inputs);
-    settle(&layout.program, bits);
+    settle_by_width(engine, bits);
     take_state(bits, latches, state);
 }
 
-/// What is run: a network that is laid out, the numbers whose bits are asked for, and the rows.
+/// What is run: a network that is laid out, its program as it is run, the numbers whose bits are asked for, and the rows.
 #[derive(Clone, Copy)]
 struct Simulation<'r> {
     layout: &'r Layout,
+    engine: &'r ByWidth,
     outs: &'r [u32],
     rows: &'r [Items<bool>],
 }
@@ -100,9 +114,25 @@ pub fn simulate(
         → out ≡ rows_at outs.now b (length rows.now)) }
 {
     let layout = lay_out(alloc, design, drivers, order)?;
+    run_laid_out(alloc, &layout, outs, rows)
+}
+
+/// Runs what is laid out row by row, and answers the bits of some numbers in each row.
+fn run_laid_out(
+    alloc: Global,
+    layout: &Layout,
+    outs: &[u32],
+    rows: &[Items<bool>],
+) -> Result<Items<Items<bool>>, AllocError>
+    requires runnable { IsRunnable layout.now }
+    requires outs { AllByRecursion (λ k. k < layout.now.program.nets) outs.now }
+    ensures { IfOk result (λ out. (b : Table ℕ) → FitsTable layout.now rows.now b → out ≡ rows_at outs.now b (length rows.now)) }
+{
+    let engine = engine_of(layout)?;
     let mut results = Vec::with_capacity(alloc, rows.len())?;
     let run = Simulation {
-        layout: &layout,
+        layout,
+        engine: &engine,
         outs,
         rows,
     };
@@ -118,6 +148,7 @@ fn run_layout(
     results: &mut Vec<Items<bool>>,
 ) -> Result<(), AllocError>
     requires runnable { IsRunnable run.layout.now }
+    requires engine { IsEngineOf run.layout.now run.engine.now }
     requires outs { AllByRecursion (λ k. k < run.layout.now.program.nets) run.outs.now }
     requires none { results.old.items ≡ [] }
     ensures { OnOk result ((b : Table ℕ) → FitsTable run.entry.layout.now run.entry.rows.now b
@@ -147,6 +178,7 @@ fn run_rows(
     results: &mut Vec<Items<bool>>,
 ) -> Result<(), AllocError>
     requires runnable { IsRunnable run.layout.now }
+    requires engine { IsEngineOf run.layout.now run.engine.now }
     requires outs { AllByRecursion (λ k. k < run.layout.now.program.nets) run.outs.now }
     requires state { state.old ≡ map latch_init run.layout.now.latches.items }
     requires inputs { length inputs.old ≡ length run.layout.now.places.items }
@@ -155,9 +187,14 @@ fn run_rows(
     ensures { OnOk result ((b : Table ℕ) → FitsTable run.entry.layout.now run.entry.rows.now b
         → results.new.items ≡ rows_at run.entry.outs.now b (length run.entry.rows.now)) }
 {
-    let Simulation { layout, outs, rows } = run;
+    let Simulation {
+        layout,
+        engine,
+        outs,
+        rows,
+    } = run;
     for t in 0..rows.len() {
-        run_row(layout, rows[t].as_slice(), state, inputs, bits);
+        run_row(layout, engine, rows[t].as_slice(), state, inputs, bits);
         let out = gather(alloc, bits, outs)?;
         results.push(out)?;
     }

@@ -6,7 +6,7 @@ use Rattle.lid_strict.specs.Layouts.{known_first}
 use Rattle.lid_strict.proofs.simulation.run_row.Goals as goal
 
 pub returns-clause-state : goal.returns-clause-state
-returns-clause-state c = c.take_state.ensures ∙ ap (λ (ls : List FlatLatch). map (bit_at c.settle.new.bits) (map latch_input ls)) c.as_slice-latches.ensures.value
+returns-clause-state c = c.take_state.ensures ∙ ap (λ (ls : List FlatLatch). map (bit_at c.settle_by_width.new.bits) (map latch_input ls)) c.as_slice-latches.ensures.value
 
 pub returns-clause-bits : goal.returns-clause-bits
 returns-clause-bits c f fits k h =
@@ -18,4 +18,5 @@ returns-clause-bits c f fits k h =
     let held' = subst (λ (ls : List FlatLatch). AreRightAt f (map latch_out ls ++ []) c.put_state.new.bits) value held in
     let put = c.put_bits.ensures.bits f (map latch_out latches ++ []) (ap (map f) c.as_slice-2.ensures.value ∙ fits.inputs ∙ sym read) held' in
     let put' = subst (λ (ks : List ℕ). AreRightAt f (ks ++ (map latch_out latches ++ [])) c.put_bits.new.bits) c.as_slice-2.ensures.value put in
-    c.settle.ensures.bits f (known_first p) fits.covers c.requires.runnable.earlier put' k (c.requires.runnable.all k h)
+    let stands = c.requires.engine.serves f (known_first p) fits.covers c.requires.runnable.earlier in
+    c.settle_by_width.ensures.bits f (known_first p) stands.row stands.earlier put' k (stands.all k (c.requires.runnable.all k h))

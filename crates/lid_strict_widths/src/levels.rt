@@ -1,0 +1,55 @@
+//! An order of steps by level and width. Nothing is promised of it.
+
+ghost use Rattle.lid_strict_engine.specs.Programs.{IsReadyProgram};
+
+use lid_strict_engine::{Program, ProgramStep};
+use std::alloc::{AllocError, Global};
+
+/// The greatest level that is told apart.
+const MOST_LEVEL: u64 = 33_554_431;
+
+/// One more than the greatest level of the nets that a step reads, at most the greatest that is told apart.
+fn level_of(step: ProgramStep, reads: &[u32], levels: &[u32]) -> u32 {
+    let mut most = 0;
+    for place in 0..step.width as usize {
+        let net = reads
+            .get((step.first as usize).wrapping_add(place))
+            .copied()
+            .unwrap_or(0);
+        let level = levels.get(net as usize).copied().unwrap_or(0);
+        if level > most {
+            most = level;
+        }
+    }
+    most.saturating_add(1)
+}
+
+/// A number for each step by which steps are ordered: its level, then its width, then its place.
+fn keys_of(alloc: Global, program: &Program) -> Result<Vec<u64>, AllocError> {
+    let mut levels = Vec::from_elem(alloc, 0u32, program.nets as usize + 1)?;
+    let mut keys = Vec::with_capacity(alloc, program.steps.len())?;
+    let mut place = 0u64;
+    for step in program.steps.as_slice() {
+        let level = level_of(*step, program.reads.as_slice(), levels.as_slice());
+        if let Some(seen) = levels.get_mut(step.out as usize) {
+            *seen = level;
+        }
+        let width = u64::from(step.width) % 128;
+        keys.push(
+            (u64::from(level).min(MOST_LEVEL) << 39) | (width << 32) | (place % 4_294_967_296),
+        )?;
+        place = place.wrapping_add(1);
+    }
+    Ok(keys)
+}
+
+/// The places of the steps of a program, those of a lower level first, and of one level those with fewer reads.
+pub(crate) fn propose(alloc: Global, program: &Program) -> Result<Vec<u32>, AllocError> {
+    let mut keys = keys_of(alloc, program)?;
+    keys.sort_unstable();
+    let mut order = Vec::with_capacity(alloc, keys.len())?;
+    for key in keys.as_slice() {
+        order.push((*key % 4_294_967_296) as u32)?;
+    }
+    Ok(order)
+}

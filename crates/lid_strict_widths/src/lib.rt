@@ -1,0 +1,15 @@
+//! Programs by widths: steps of one width that follow one another are run by one loop, over arrays of one thing each.
+#![tactic(auto)]
+
+mod building;
+mod group;
+mod levels;
+mod ordering;
+mod packing;
+mod rows;
+mod settling;
+
+pub use building::by_width;
+pub use group::{ByWidth, Group};
+pub use ordering::by_level;
+pub use settling::settle_by_width;
