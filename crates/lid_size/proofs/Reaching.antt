@@ -11,8 +11,8 @@ use Rattle.lid_cert.specs.Certificates.{least_node, Certifies, IsInRange, part_a
 use Rattle.lid_graph.specs.Rateable.{IsRateable}
 use Rattle.lid_rate.specs.Rates.{IsShort}
 use Rattle.lid_system.specs.declared.System.{System}
-use Rattle.lid_system.specs.Systems.{IsWellFormed}
-use Rattle.lid_stations.specs.Placements.{links_of, station_count, IsCapacity, Fits}
+use Rattle.lid_stations.specs.Placed.{Placing, IsPlaced, links_in}
+use Rattle.lid_stations.specs.Placements.{links_of, station_count, IsCapacity}
 use Rattle.lid_size_laws.proofs.Scaling.{compared}
 use Rattle.lid_rate_ratio.specs.declared.lowest_terms.Ratio.{Ratio}
 use Rattle.lid_size.specs.Comparing.{AreAllKept, IsFirstLow, AreCompared, want_of}
@@ -47,9 +47,17 @@ compared_with s relays caps g n cert wants items is count rateable certifies in_
     (subst (λ (m : ℕ). AreCompared g m cert items) count
     (subst (AreCompared g n cert) (sym same) (record { rateable = rateable; certifies = certifies; in_range = in_range; short = short; ratios = ratios })))
 
-pub stations_of : (s : System) (relays caps : List ℕ) (g : Graph) (n : ℕ) → IsWellFormed s → Fits s (with_capacities relays caps) → g ≡ sized (links_of s) relays caps → n ≡ length caps → HasStations g n
-stations_of s relays caps g n well fits is count =
-    subst (λ (h : Graph). HasStations h n) (sym is) (subst (HasStations (sized (links_of s) relays caps)) (sym (count ∙ fits.rules.caps)) (has_stations s relays caps well fits))
+-- how many stations a placed system has, by how many capacities
+pub stations_counted : (inside now : Placing) (n : ℕ) → inside ≡ now → IsPlaced inside.system inside.placement → n ≡ length inside.placement.caps → n ≡ station_count now.placement.relays
+stations_counted inside now n is placed count = subst (λ (v : Placing). n ≡ station_count v.placement.relays) is (count ∙ placed.fits.rules.caps)
+
+pub stations_of : (inside now : Placing) (g : Graph) (n : ℕ) → inside ≡ now → IsPlaced inside.system inside.placement → g ≡ sized (links_in now) now.placement.relays now.placement.caps → n ≡ length inside.placement.caps → HasStations g n
+stations_of inside now g n is placed graph count =
+    let relays = inside.placement.relays in
+    let caps = inside.placement.caps in
+    let here : g ≡ sized (links_in inside) relays caps = subst (λ (v : Placing). g ≡ sized (links_in v) v.placement.relays v.placement.caps) (sym is) graph in
+    subst (λ (h : Graph). HasStations h n) (sym here)
+    (subst (HasStations (sized (links_in inside) relays caps)) (sym (count ∙ placed.fits.rules.caps)) (has_stations inside.system relays caps placed.formed placed.fits))
 
 -- the forward ratios of other capacities
 pub wants_with : (s : System) (relays xs other_relays ys : List ℕ) (wants : List Ratio) → other_relays ≡ relays → AreForwardRatios (sized (links_of s) relays xs) (station_count relays) wants → AreForwardRatios (sized (links_of s) other_relays ys) (station_count other_relays) wants

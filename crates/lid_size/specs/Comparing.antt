@@ -7,7 +7,10 @@ use Rattle.lid_cert.specs.declared.cert.Cert.{Cert}
 use Rattle.lid_cert.specs.Certificates.{least_node, Certifies, IsInRange, part_at}
 use Rattle.lid_rate_ratio.specs.declared.lowest_terms.Ratio.{Ratio}
 use Rattle.lid_rate.specs.Rates.{IsShort}
+use Rattle.lid_stations.specs.Placed.{Placing, links_in}
+use Rattle.lid_stations.specs.Placements.{station_count}
 use Rattle.lid_size_forward.specs.ForwardParts.{AreForwardRatios, no_ratio}
+use Rattle.lid_size.specs.Sizing.{sized, Reaches}
 
 -- the ratio of the part is not below this one
 abbrev pub IsRatioKept : Ratio → Part → Type 0
@@ -34,3 +37,11 @@ pub record AreCompared (g : Graph) (n : ℕ) (cert : Cert) (wants : List Ratio) 
   pub in_range : IsInRange cert
   pub short : IsShort g cert
   pub ratios : AreForwardRatios g n wants
+
+-- the forward ratios of a placed system
+abbrev pub AreWants : Placing → List Ratio → Type 0
+AreWants placed wants = AreForwardRatios (sized (links_in placed) placed.placement.relays placed.placement.caps) (station_count placed.placement.relays) wants
+
+-- it reaches with these capacities in place of its own
+abbrev pub ReachesWith : Placing → List ℕ → Type 0
+ReachesWith placed caps = Reaches (links_in placed) placed.placement.relays caps

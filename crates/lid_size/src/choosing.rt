@@ -3,12 +3,12 @@
 
 ghost use Rattle.std.specs.Prelude.{◌≡◌, ℕ, ◌<◌, ◌≤◌, ◌↔◌, length, replicate, IsTrue, IfOk, IfSome};
 ghost use Rattle.std.specs.List.{All};
-ghost use Rattle.lid_stations.specs.Placements.{links_of, Fits, station_count, IsCapacity};
-ghost use Rattle.lid_system.specs.Systems.{IsWellFormed};
+ghost use Rattle.lid_stations.specs.Placed.{links_in};
+ghost use Rattle.lid_stations.specs.Placements.{station_count, IsCapacity};
 ghost use Rattle.lid_size.specs.Choices.{followed, AreChosen, IsNextCapacity};
-ghost use Rattle.lid_size_forward.specs.ForwardParts.{AreForwardRatios};
+ghost use Rattle.lid_size.specs.Comparing.{AreWants, ReachesWith};
 ghost use Rattle.lid_size.specs.Sizes.{IsReachedPlacement};
-ghost use Rattle.lid_size.specs.Sizing.{sized, greatest, Reaches, IsFirst};
+ghost use Rattle.lid_size.specs.Sizing.{sized, greatest, IsFirst};
 
 use crate::comparing::reaches;
 use crate::testing::guessed_sizes;
@@ -16,8 +16,7 @@ use lid_base::Items;
 use lid_cert::Cert;
 use lid_graph::Graph;
 use lid_rate_ratio::Ratio;
-use lid_stations::Placement;
-use lid_system::System;
+use lid_stations::{Placed, Placement};
 use std::alloc::{AllocError, Global};
 
 /// So many capacities of 16.
@@ -58,43 +57,41 @@ pub(crate) fn placement_of(
 /// Whether these capacities, then one, then 16 for all later stations reach.
 fn reaches_with(
     alloc: Global,
-    system: &System,
-    placement: &Placement,
+    placed: &Placed<'_>,
     wants: &[Ratio],
     done: &[u32],
     next: u32,
 ) -> Result<bool, AllocError>
-    requires system { IsWellFormed system.now }
-    requires fits { Fits system.now placement.now }
-    requires wants { AreForwardRatios (sized (links_of system.now) placement.now.relays placement.now.caps) (station_count placement.now.relays) wants.now }
-    requires few { length done.now < station_count placement.now.relays }
+    requires wants { AreWants placed.now wants.now }
+    requires few { length done.now < station_count placed.now.placement.relays }
     requires range { All IsCapacity done.now }
     requires next { IsCapacity next }
-    ensures { IfOk result (λ all. IsTrue all ↔ Reaches (links_of system.now) placement.now.relays (followed (station_count placement.now.relays) done.now next)) }
+    ensures { IfOk result (λ all. IsTrue all ↔ ReachesWith placed.now (followed (station_count placed.now.placement.relays) done.now next)) }
 {
-    let caps = followed(alloc, placement.caps.len(), done, next)?;
-    let trial = placement_of(alloc, placement.relays.as_slice(), caps)?;
-    reaches(alloc, system, &trial, wants)
+    let caps = followed(alloc, placed.placement.caps.len(), done, next)?;
+    let trial = placement_of(alloc, placed.placement.relays.as_slice(), caps)?;
+    let tried = Placed {
+        system: placed.system,
+        placement: &trial,
+    };
+    reaches(alloc, &tried, wants)
 }
 
 /// The least capacity of the next station that reaches with 16 for all later ones.
 fn next_capacity(
     alloc: Global,
-    system: &System,
-    placement: &Placement,
+    placed: &Placed<'_>,
     wants: &[Ratio],
     done: &[u32],
 ) -> Result<u32, AllocError>
-    requires system { IsWellFormed system.now }
-    requires fits { Fits system.now placement.now }
-    requires wants { AreForwardRatios (sized (links_of system.now) placement.now.relays placement.now.caps) (station_count placement.now.relays) wants.now }
-    requires few { length done.now < station_count placement.now.relays }
+    requires wants { AreWants placed.now wants.now }
+    requires few { length done.now < station_count placed.now.placement.relays }
     requires range { All IsCapacity done.now }
-    requires greatest { Reaches (links_of system.now) placement.now.relays (followed (station_count placement.now.relays) done.now 16) }
-    ensures { IfOk result (IsNextCapacity (Reaches (links_of system.now) placement.now.relays) (station_count placement.now.relays) done.now) }
+    requires greatest { ReachesWith placed.now (followed (station_count placed.now.placement.relays) done.now 16) }
+    ensures { IfOk result (IsNextCapacity (ReachesWith placed.now) (station_count placed.now.placement.relays) done.now) }
 {
     for next in 2..16u32 {
-        if reaches_with(alloc, system, placement, wants, done, next)? {
+        if reaches_with(alloc, placed, wants, done, next)? {
             return Ok(next);
         }
     }
@@ -108,25 +105,26 @@ fn next_capacity(
 /// Where there is no memory.
 pub(crate) fn tested(
     alloc: Global,
-    system: &System,
-    widest: &Placement,
+    widest: &Placed<'_>,
     graph: &Graph,
     wants: &[Ratio],
     cert: &Cert,
 ) -> Result<Option<Placement>, AllocError>
-    requires system { IsWellFormed system.now }
-    requires fits { Fits system.now widest.now }
-    requires widest { widest.now.caps ≡ greatest widest.now.relays }
-    requires graph { graph.now ≡ sized (links_of system.now) widest.now.relays widest.now.caps }
-    requires wants { AreForwardRatios (sized (links_of system.now) widest.now.relays widest.now.caps) (station_count widest.now.relays) wants.now }
-    ensures { IfOk result (λ found. IfSome found (IsReachedPlacement (links_of system.now) widest.now.relays)) }
+    requires widest { widest.now.placement.caps ≡ greatest widest.now.placement.relays }
+    requires graph { graph.now ≡ sized (links_in widest.now) widest.now.placement.relays widest.now.placement.caps }
+    requires wants { AreWants widest.now wants.now }
+    ensures { IfOk result (λ found. IfSome found (IsReachedPlacement (links_in widest.now) widest.now.placement.relays)) }
 {
-    let count = widest.caps.len() as u32;
+    let count = widest.placement.caps.len() as u32;
     let Some(caps) = guessed_sizes(alloc, graph, wants, count, cert)? else {
         return Ok(None);
     };
-    let trial = placement_of(alloc, widest.relays.as_slice(), caps)?;
-    if reaches(alloc, system, &trial, wants)? {
+    let trial = placement_of(alloc, widest.placement.relays.as_slice(), caps)?;
+    let tried = Placed {
+        system: widest.system,
+        placement: &trial,
+    };
+    if reaches(alloc, &tried, wants)? {
         Ok(Some(trial))
     } else {
         Ok(None)
@@ -139,19 +137,16 @@ pub(crate) fn tested(
 /// Where there is no memory.
 pub(crate) fn choose(
     alloc: Global,
-    system: &System,
-    placement: &Placement,
+    placed: &Placed<'_>,
     wants: &[Ratio],
 ) -> Result<Vec<u32>, AllocError>
-    requires system { IsWellFormed system.now }
-    requires fits { Fits system.now placement.now }
-    requires wants { AreForwardRatios (sized (links_of system.now) placement.now.relays placement.now.caps) (station_count placement.now.relays) wants.now }
-    requires greatest { Reaches (links_of system.now) placement.now.relays (greatest placement.now.relays) }
-    ensures { IfOk result (λ caps. IsFirst (Reaches (links_of system.now) placement.now.relays) (station_count placement.now.relays) caps.items) }
+    requires wants { AreWants placed.now wants.now }
+    requires greatest { ReachesWith placed.now (greatest placed.now.placement.relays) }
+    ensures { IfOk result (λ caps. IsFirst (ReachesWith placed.now) (station_count placed.now.placement.relays) caps.items) }
 {
     let mut done = Vec::new(alloc);
-    for _ in 0..placement.caps.len() {
-        let next = next_capacity(alloc, system, placement, wants, &done)?;
+    for _ in 0..placed.placement.caps.len() {
+        let next = next_capacity(alloc, placed, wants, &done)?;
         done.push(next)?;
     }
     Ok(done)

@@ -5,17 +5,13 @@ ghost use Rattle.std.specs.Option.{MatchOption};
 ghost use Rattle.lid_graph.specs.declared.graph.Graph.{Graph};
 ghost use Rattle.lid_cert.specs.Certificates.{least_node, Certifies, IsInRange};
 ghost use Rattle.lid_rate.specs.Rates.{IsShort};
-ghost use Rattle.lid_system.specs.Systems.{IsWellFormed};
-ghost use Rattle.lid_stations.specs.Placements.{links_of, Fits, station_count};
-ghost use Rattle.lid_size_forward.specs.ForwardParts.{AreForwardRatios, no_ratio};
-ghost use Rattle.lid_size.specs.Sizing.{sized, Reaches};
-ghost use Rattle.lid_size.specs.Comparing.{IsRatioKept, AreAllKept, IsFirstLow, AreCompared};
+ghost use Rattle.lid_size_forward.specs.ForwardParts.{no_ratio};
+ghost use Rattle.lid_size.specs.Comparing.{IsRatioKept, AreAllKept, IsFirstLow, AreCompared, AreWants, ReachesWith};
 
 use lid_cert::{Cert, Part};
 use lid_rate::find;
 use lid_rate_ratio::Ratio;
-use lid_stations::{Placement, marking};
-use lid_system::System;
+use lid_stations::{Placed, marking};
 use std::alloc::{AllocError, Global};
 
 /// The forward ratio of the component of a part.
@@ -58,16 +54,13 @@ pub(crate) fn find_low(cert: &Cert, wants: &[Ratio]) -> Option<u32>
 /// Where there is no memory.
 pub(crate) fn reaches(
     alloc: Global,
-    system: &System,
-    placement: &Placement,
+    placed: &Placed<'_>,
     wants: &[Ratio],
 ) -> Result<bool, AllocError>
-    requires system { IsWellFormed system.now }
-    requires fits { Fits system.now placement.now }
-    requires wants { AreForwardRatios (sized (links_of system.now) placement.now.relays placement.now.caps) (station_count placement.now.relays) wants.now }
-    ensures { IfOk result (λ all. IsTrue all ↔ Reaches (links_of system.now) placement.now.relays placement.now.caps) }
+    requires { AreWants placed.now wants.now }
+    ensures { IfOk result (λ all. IsTrue all ↔ ReachesWith placed.now placed.now.placement.caps) }
 {
-    let graph = marking(alloc, system, placement)?;
+    let graph = marking(alloc, placed.system, placed.placement)?;
     let cert = find(alloc, &graph)?;
     Ok(find_low(&cert, wants).is_none())
 }

@@ -2,11 +2,11 @@
 
 ghost use Rattle.std.specs.Prelude.{◌≡◌, ℕ, length, replicate, IfOk};
 ghost use Rattle.lid_graph.specs.declared.graph.Graph.{Graph};
+ghost use Rattle.lid_stations.specs.Placed.{links_in};
 ghost use Rattle.lid_stations.specs.Placements.{links_of, Fits, station_count};
 ghost use Rattle.lid_system.specs.Systems.{IsWellFormed};
-ghost use Rattle.lid_size.specs.Comparing.{AreCompared, IsFirstLow};
-ghost use Rattle.lid_size_forward.specs.ForwardParts.{AreForwardRatios};
-ghost use Rattle.lid_size.specs.Sizing.{sized, greatest, Reaches};
+ghost use Rattle.lid_size.specs.Comparing.{AreCompared, IsFirstLow, AreWants, ReachesWith};
+ghost use Rattle.lid_size.specs.Sizing.{sized, greatest};
 ghost use Rattle.lid_size.specs.Sizes.{Sizes, FitsIfReached, short_end};
 
 use crate::choosing::{choose, greatest, placement_of, tested};
@@ -16,7 +16,7 @@ use lid_graph::Graph;
 use lid_rate::find;
 use lid_rate_ratio::Ratio;
 use lid_size_forward::forward_ratios;
-use lid_stations::{Placement, marking};
+use lid_stations::{Placed, Placement, marking};
 use lid_system::System;
 use std::alloc::{AllocError, Global};
 
@@ -44,44 +44,34 @@ pub enum SizeEnd {
 }
 
 /// The answer where capacities reach, by tests of all of them.
-fn searched(
-    alloc: Global,
-    system: &System,
-    widest: &Placement,
-    wants: &[Ratio],
-) -> Result<SizeEnd, AllocError>
-    requires system { IsWellFormed system.now }
-    requires fits { Fits system.now widest.now }
-    requires widest { widest.now.caps ≡ greatest widest.now.relays }
-    requires wants { AreForwardRatios (sized (links_of system.now) widest.now.relays widest.now.caps) (station_count widest.now.relays) wants.now }
-    requires greatest { Reaches (links_of system.now) widest.now.relays (greatest widest.now.relays) }
-    ensures { IfOk result (Sizes (links_of system.now) widest.now.relays) }
+fn searched(alloc: Global, widest: &Placed<'_>, wants: &[Ratio]) -> Result<SizeEnd, AllocError>
+    requires widest { widest.now.placement.caps ≡ greatest widest.now.placement.relays }
+    requires wants { AreWants widest.now wants.now }
+    requires greatest { ReachesWith widest.now (greatest widest.now.placement.relays) }
+    ensures { IfOk result (Sizes (links_in widest.now) widest.now.placement.relays) }
 {
-    let caps = choose(alloc, system, widest, wants)?;
-    let sized = placement_of(alloc, widest.relays.as_slice(), caps)?;
+    let caps = choose(alloc, widest, wants)?;
+    let sized = placement_of(alloc, widest.placement.relays.as_slice(), caps)?;
     Ok(SizeEnd::Reached(sized))
 }
 
 /// The answer where capacities reach: those of a guess, where its test succeeds.
 fn reached(
     alloc: Global,
-    system: &System,
-    widest: &Placement,
+    widest: &Placed<'_>,
     graph: &Graph,
     wants: &[Ratio],
     cert: &Cert,
 ) -> Result<SizeEnd, AllocError>
-    requires system { IsWellFormed system.now }
-    requires fits { Fits system.now widest.now }
-    requires widest { widest.now.caps ≡ greatest widest.now.relays }
-    requires graph { graph.now ≡ sized (links_of system.now) widest.now.relays widest.now.caps }
-    requires wants { AreForwardRatios (sized (links_of system.now) widest.now.relays widest.now.caps) (station_count widest.now.relays) wants.now }
-    requires greatest { Reaches (links_of system.now) widest.now.relays (greatest widest.now.relays) }
-    ensures { IfOk result (Sizes (links_of system.now) widest.now.relays) }
+    requires widest { widest.now.placement.caps ≡ greatest widest.now.placement.relays }
+    requires graph { graph.now ≡ sized (links_in widest.now) widest.now.placement.relays widest.now.placement.caps }
+    requires wants { AreWants widest.now wants.now }
+    requires greatest { ReachesWith widest.now (greatest widest.now.placement.relays) }
+    ensures { IfOk result (Sizes (links_in widest.now) widest.now.placement.relays) }
 {
-    match tested(alloc, system, widest, graph, wants, cert)? {
+    match tested(alloc, widest, graph, wants, cert)? {
         Some(sized) => Ok(SizeEnd::Reached(sized)),
-        None => searched(alloc, system, widest, wants),
+        None => searched(alloc, widest, wants),
     }
 }
 
@@ -105,23 +95,16 @@ fn short(cert: Cert, wants: &[Ratio], low: u32) -> SizeEnd
 }
 
 /// The answer from the marking with 16 everywhere.
-fn size_from(
-    alloc: Global,
-    system: &System,
-    widest: &Placement,
-    graph: &Graph,
-) -> Result<SizeEnd, AllocError>
-    requires system { IsWellFormed system.now }
-    requires fits { Fits system.now widest.now }
-    requires widest { widest.now.caps ≡ greatest widest.now.relays }
-    requires graph { graph.now ≡ sized (links_of system.now) widest.now.relays widest.now.caps }
-    ensures { IfOk result (Sizes (links_of system.now) widest.now.relays) }
+fn size_from(alloc: Global, widest: &Placed<'_>, graph: &Graph) -> Result<SizeEnd, AllocError>
+    requires widest { widest.now.placement.caps ≡ greatest widest.now.placement.relays }
+    requires graph { graph.now ≡ sized (links_in widest.now) widest.now.placement.relays widest.now.placement.caps }
+    ensures { IfOk result (Sizes (links_in widest.now) widest.now.placement.relays) }
 {
-    let wants = forward_ratios(alloc, graph, widest.caps.len() as u32)?;
+    let wants = forward_ratios(alloc, graph, widest.placement.caps.len() as u32)?;
     let cert = find(alloc, graph)?;
     match find_low(&cert, &wants) {
         Some(low) => Ok(short(cert, &wants, low)),
-        None => reached(alloc, system, widest, graph, &wants, &cert),
+        None => reached(alloc, widest, graph, &wants, &cert),
     }
 }
 
@@ -151,5 +134,9 @@ pub fn size(alloc: Global, system: &System, placement: &Placement) -> Result<Siz
 {
     let widest = widest(alloc, placement)?;
     let graph = marking(alloc, system, &widest)?;
-    size_from(alloc, system, &widest, &graph)
+    let placed = Placed {
+        system,
+        placement: &widest,
+    };
+    size_from(alloc, &placed, &graph)
 }

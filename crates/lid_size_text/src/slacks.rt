@@ -4,6 +4,7 @@ ghost use Rattle.std.specs.Prelude.{◌≡◌, ◌++◌, ◌<◌, length, IfOk, 
 ghost use Rattle.lid_base_lines.specs.Texts.{line_text};
 ghost use Rattle.lid_size_text.specs.Slacks.{channel_name, slack_words, next_ratio_word, IsSlackText};
 ghost use Rattle.lid_slack.specs.Told.{IsCertified};
+ghost use Rattle.lid_stations.specs.Placed.{links_in};
 ghost use Rattle.lid_stations.specs.Placements.{links_of, Fits};
 ghost use Rattle.lid_system.specs.Systems.{IsWellFormed};
 
@@ -11,7 +12,7 @@ use crate::ratio::append_ratio;
 use lid_base_lines::append_number_word;
 use lid_rate_ratio::Ratio;
 use lid_slack::{Certified, PlainSlack, certify, new_ways, slack_by_ways};
-use lid_stations::Placement;
+use lid_stations::{Placed, Placement};
 use lid_system::System;
 use lid_texts_runs::append_node;
 use std::alloc::{AllocError, Global};
@@ -60,28 +61,21 @@ fn append_slack(
 }
 
 /// The text of `slack_text`, from what is the same for all channels.
-fn text_from(
-    alloc: Global,
-    system: &System,
-    placement: &Placement,
-    present: &Certified,
-) -> Result<Vec<u8>, AllocError>
-    requires system { IsWellFormed system.now }
-    requires fits { Fits system.now placement.now }
-    requires present { IsCertified (links_of system.now) placement.now present.now }
-    ensures { IfOk result (λ text. IsSlackText (links_of system.now) placement.now text.items) }
+fn text_from(alloc: Global, placed: &Placed<'_>, present: &Certified) -> Result<Vec<u8>, AllocError>
+    requires { IsCertified (links_in placed.now) placed.now.placement present.now }
+    ensures { IfOk result (λ text. IsSlackText (links_in placed.now) placed.now.placement text.items) }
 {
     let mut ways = new_ways(
         alloc,
         &present.graph,
         &present.cert,
-        placement.relays.as_slice(),
+        placed.placement.relays.as_slice(),
     )?;
     let mut text = Vec::new(alloc);
-    for channel in 0..system.channels.len() {
+    for channel in 0..placed.system.channels.len() {
         let number = channel as u32;
-        let found = slack_by_ways(alloc, system, placement, present, number, &mut ways)?;
-        append_slack(system, number, found, &mut text)?;
+        let found = slack_by_ways(alloc, placed, present, number, &mut ways)?;
+        append_slack(placed.system, number, found, &mut text)?;
     }
     Ok(text)
 }
@@ -101,6 +95,7 @@ pub fn slack_text(
     requires fits { Fits system.now placement.now }
     ensures { IfOk result (λ text. IsSlackText (links_of system.now) placement.now text.items) }
 {
-    let present = certify(alloc, system, placement)?;
-    text_from(alloc, system, placement, &present)
+    let placed = Placed { system, placement };
+    let present = certify(alloc, &placed)?;
+    text_from(alloc, &placed, &present)
 }

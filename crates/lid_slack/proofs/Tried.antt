@@ -11,6 +11,7 @@ use Rattle.lid_system.specs.declared.System.{System}
 use Rattle.lid_system.specs.Systems.{IsWellFormed}
 use Rattle.lid_rate_ratio.specs.declared.lowest_terms.Ratio.{Ratio}
 use Rattle.lid_stations.specs.declared.placement.Placement.{Placement}
+use Rattle.lid_stations.specs.Placed.{IsPlaced}
 use Rattle.lid_stations.specs.Placements.{Links, links_of, Fits}
 use Rattle.lid_stations.specs.Markings.{marking}
 use Rattle.lid_stations.proofs.Spots.{channel_there}
@@ -42,6 +43,10 @@ some_part g cert v paired certifies within none = from_part (each_is_shown g cer
         let out : has_node h.0 v ≡ false = sym (ap (λ (part : Part). has_node part v) same) ∙ none stands.0 stands.1 in
         let inside : has_node h.0 v ≡ true = h.1.inside in
         cc
+
+-- no further relay station can be tried on each channel of a placed system
+pub can_none : (s : System) (p : Placement) (c : ℕ) → IsPlaced s p → c < length s.channels → CanTry s p c 0
+can_none s p c placed there = record { system = placed.formed; fits = placed.fits; there = there; enough = omega arith }
 
 -- the producer of a channel is a transition
 pub producer_within : (s : System) (p : Placement) (c x : ℕ) → CanTry s p c x → producer (links_of s) c < (longer_marking (links_of s) p c x).nodes

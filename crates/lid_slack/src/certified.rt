@@ -1,15 +1,13 @@
 //! What is the same for all channels: the marked graph of a placement, and a certificate of it.
 
 ghost use Rattle.std.specs.Prelude.{IfOk};
-ghost use Rattle.lid_system.specs.Systems.{IsWellFormed};
-ghost use Rattle.lid_stations.specs.Placements.{links_of, Fits};
+ghost use Rattle.lid_stations.specs.Placed.{links_in};
 ghost use Rattle.lid_slack.specs.Told.{IsCertified};
 
 use lid_cert::Cert;
 use lid_graph::Graph;
 use lid_rate::find;
-use lid_stations::{Placement, marking};
-use lid_system::System;
+use lid_stations::{Placed, marking};
 use std::alloc::{AllocError, Global};
 
 /// A marked graph, and a certificate of it.
@@ -19,20 +17,14 @@ pub struct Certified {
     pub cert: Cert,
 }
 
-/// The marked graph of a placement, and a certificate of it: `slack_from` takes them for each channel.
+/// The marked graph of a placement, and a certificate of it: it is the same for all channels.
 ///
 /// # Errors
 /// Where there is no memory.
-pub fn certify(
-    alloc: Global,
-    system: &System,
-    placement: &Placement,
-) -> Result<Certified, AllocError>
-    requires system { IsWellFormed system.now }
-    requires fits { Fits system.now placement.now }
-    ensures { IfOk result (IsCertified (links_of system.now) placement.now) }
+pub fn certify(alloc: Global, placed: &Placed<'_>) -> Result<Certified, AllocError>
+    ensures { IfOk result (IsCertified (links_in placed.now) placed.now.placement) }
 {
-    let graph = marking(alloc, system, placement)?;
+    let graph = marking(alloc, placed.system, placed.placement)?;
     let cert = find(alloc, &graph)?;
     Ok(Certified { graph, cert })
 }

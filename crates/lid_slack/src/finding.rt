@@ -4,11 +4,12 @@ ghost use Rattle.std.specs.Prelude.{◌≡◌, ℕ, ◌+◌, ◌<◌, ◌≤◌,
 ghost use Rattle.lid_cert.specs.Certificates.{Certifies};
 ghost use Rattle.lid_graph.specs.Ratios.{IsRatio};
 ghost use Rattle.lid_system.specs.Systems.{IsWellFormed};
+ghost use Rattle.lid_stations.specs.Placed.{links_in};
 ghost use Rattle.lid_stations.specs.Placements.{links_of, Fits};
 ghost use Rattle.lid_slack_longer.specs.Longer.{longer_marking, producer, room, KeepsRatio};
 ghost use Rattle.lid_slack.specs.Slack.{IsSlack};
 ghost use Rattle.lid_slack.specs.Told.{IsCertified, IsEnd, IsTold, IsNextRatio};
-ghost use Rattle.lid_slack.specs.Trials.{CanTry, IsPresent, CanProbe, ShowsPresent, marking_with, ProbeKeeps, IsAgainstMore, IsMostOf, IsFoundBy};
+ghost use Rattle.lid_slack.specs.Trials.{IsPresent, CanProbe, ShowsPresent, marking_with, ProbeKeeps, IsAgainstMore, IsMostOf, IsFoundBy};
 
 use crate::answer::{Slack, SlackAndNext};
 use crate::bisection::bisect;
@@ -19,7 +20,7 @@ use lid_base::Items;
 use lid_cert::Cert;
 use lid_rate_ratio::Ratio;
 use lid_slack_longer::{room, stations_through};
-use lid_stations::Placement;
+use lid_stations::{Placed, Placement};
 use lid_system::System;
 use std::alloc::{AllocError, Global};
 
@@ -33,20 +34,23 @@ struct Opening {
 /// The present ratio, and a guess.
 fn open(
     alloc: Global,
-    system: &System,
-    placement: &Placement,
+    placed: &Placed<'_>,
     present: &Certified,
     channel: u32,
     most: u32,
 ) -> Result<Opening, AllocError>
-    requires can { CanTry system.now placement.now channel 0 }
-    requires present { IsCertified (links_of system.now) placement.now present.now }
-    ensures present { IfOk result (λ opening. IsPresent system.now placement.now channel opening.present.p opening.present.q) }
+    requires present { IsCertified (links_in placed.now) placed.now.placement present.now }
+    requires channel { channel < length placed.now.system.channels }
+    ensures present { IfOk result (λ opening. IsPresent placed.now.system placed.now.placement channel opening.present.p opening.present.q) }
     ensures guess { IfOk result (λ opening. opening.guess ≤ most) }
 {
-    let number = part_of(&present.graph, &present.cert, producer(system, channel));
+    let number = part_of(
+        &present.graph,
+        &present.cert,
+        producer(placed.system, channel),
+    );
     let ratio = ratio_of(&present.cert, number);
-    let station = (stations_through(placement, channel) as u32).wrapping_sub(1);
+    let station = (stations_through(placed.placement, channel) as u32).wrapping_sub(1);
     let part = &present.cert.parts.as_slice()[number];
     let guess = propose_slack(alloc, &present.graph, part, station, ratio, most)?;
     Ok(Opening {
@@ -161,6 +165,32 @@ fn search(alloc: Global, probe: &Probe<'_>, most: u32) -> Result<SlackAndNext, A
     }
 }
 
+/// The slack of a channel and the ratio with one more, by certificates.
+pub(crate) fn slack_certified(
+    alloc: Global,
+    placed: &Placed<'_>,
+    present: &Certified,
+    channel: u32,
+) -> Result<SlackAndNext, AllocError>
+    requires present { IsCertified (links_in placed.now) placed.now.placement present.now }
+    requires channel { channel < length placed.now.system.channels }
+    ensures slack { IfOk result (λ all. IsTold (links_in placed.now) placed.now.placement channel all.slack) }
+    ensures next { IfOk result (λ all. IsNextRatio (links_in placed.now) placed.now.placement channel all.slack all.next) }
+{
+    let most = room(placed.placement, channel);
+    let opening = open(alloc, placed, present, channel, most)?;
+    let probe = Probe {
+        system: placed.system,
+        placement: placed.placement,
+        channel,
+        present: opening.present,
+    };
+    match settle(alloc, &probe, opening.guess, most)? {
+        Some(found) => Ok(found),
+        None => search(alloc, &probe, most),
+    }
+}
+
 /// The slack of a channel and the ratio with one more, as `slack_and_next`, from what `certify` made: it is the
 /// same for all channels.
 ///
@@ -180,18 +210,8 @@ pub fn slack_from(
     ensures slack { IfOk result (λ all. IsTold (links_of system.now) placement.now channel all.slack) }
     ensures next { IfOk result (λ all. IsNextRatio (links_of system.now) placement.now channel all.slack all.next) }
 {
-    let most = room(placement, channel);
-    let opening = open(alloc, system, placement, present, channel, most)?;
-    let probe = Probe {
-        system,
-        placement,
-        channel,
-        present: opening.present,
-    };
-    match settle(alloc, &probe, opening.guess, most)? {
-        Some(found) => Ok(found),
-        None => search(alloc, &probe, most),
-    }
+    let placed = Placed { system, placement };
+    slack_certified(alloc, &placed, present, channel)
 }
 
 /// The slack of a channel, as `slack`, and the ratio with one more, where there is room for it.
@@ -200,18 +220,15 @@ pub fn slack_from(
 /// Where there is no memory.
 pub fn slack_and_next(
     alloc: Global,
-    system: &System,
-    placement: &Placement,
+    placed: &Placed<'_>,
     channel: u32,
 ) -> Result<SlackAndNext, AllocError>
-    requires system { IsWellFormed system.now }
-    requires fits { Fits system.now placement.now }
-    requires channel { channel < length system.now.channels }
-    ensures slack { IfOk result (λ all. IsTold (links_of system.now) placement.now channel all.slack) }
-    ensures next { IfOk result (λ all. IsNextRatio (links_of system.now) placement.now channel all.slack all.next) }
+    requires { channel < length placed.now.system.channels }
+    ensures slack { IfOk result (λ all. IsTold (links_in placed.now) placed.now.placement channel all.slack) }
+    ensures next { IfOk result (λ all. IsNextRatio (links_in placed.now) placed.now.placement channel all.slack all.next) }
 {
-    let present = certify(alloc, system, placement)?;
-    slack_from(alloc, system, placement, &present, channel)
+    let present = certify(alloc, placed)?;
+    slack_certified(alloc, placed, &present, channel)
 }
 
 /// The slack of a channel: the greatest number of further relay stations of capacity 2 after its last station,
@@ -236,6 +253,7 @@ pub fn slack(
     ensures cert { IfOk result (λ slack. Certifies (longer_marking (links_of system.now) placement.now channel slack.added) slack.cert) }
     ensures against { IfOk result (λ slack. IsEnd (links_of system.now) placement.now channel slack.added slack.against) }
 {
-    let SlackAndNext { slack, .. } = slack_and_next(alloc, system, placement, channel)?;
+    let placed = Placed { system, placement };
+    let SlackAndNext { slack, .. } = slack_and_next(alloc, &placed, channel)?;
     Ok(slack)
 }

@@ -6,33 +6,36 @@ ghost use Rattle.lid_graph.specs.Rateable.{IsRateable};
 ghost use Rattle.lid_graph.specs.Ratios.{IsRatio};
 ghost use Rattle.lid_slack.specs.Labelled.{present_marking, IsWayRatio};
 ghost use Rattle.lid_slack.specs.Told.{IsCertified, IsSlackAndNext};
-ghost use Rattle.lid_slack.specs.Trials.{CanTry, IsPresent, CanProbe, ShowsPresent, marking_with, ProbeKeeps};
+ghost use Rattle.lid_slack.specs.Trials.{IsPresent, CanProbe, ShowsPresent, marking_with, ProbeKeeps};
 ghost use Rattle.lid_slack_longer.specs.Longer.{last_station, producer, KeepsAt};
-ghost use Rattle.lid_stations.specs.Placements.{links_of, Fits};
-ghost use Rattle.lid_system.specs.Systems.{IsWellFormed};
+ghost use Rattle.lid_stations.specs.Placed.{links_in};
+ghost use Rattle.lid_stations.specs.Placements.{links_of};
 
 use crate::answer::PlainSlack;
 use crate::certified::Certified;
-use crate::finding::slack_from;
+use crate::finding::slack_certified;
 use crate::trial::{Probe, is_below, part_of, producer, ratio_of};
 use lid_graph::Graph;
 use lid_rate_ratio::{Ratio, edge, lowest, tokens_on};
 use lid_slack_guess::{Proposal, Ways, propose};
 use lid_slack_longer::{Chain, are_labels, is_way, last_station, room};
-use lid_stations::Placement;
-use lid_system::System;
+use lid_stations::Placed;
 use std::alloc::{AllocError, Global};
 
 /// The most edges of a way.
 const MOST_EDGES: usize = 262_144;
 
 /// The present ratio of a channel's component.
-fn present_ratio(system: &System, placement: &Placement, present: &Certified, channel: u32) -> Ratio
-    requires can { CanTry system.now placement.now channel 0 }
-    requires present { IsCertified (links_of system.now) placement.now present.now }
-    ensures { IsPresent system.now placement.now channel result.p result.q }
+fn present_ratio(placed: &Placed<'_>, present: &Certified, channel: u32) -> Ratio
+    requires present { IsCertified (links_in placed.now) placed.now.placement present.now }
+    requires channel { channel < length placed.now.system.channels }
+    ensures { IsPresent placed.now.system placed.now.placement channel result.p result.q }
 {
-    let number = part_of(&present.graph, &present.cert, producer(system, channel));
+    let number = part_of(
+        &present.graph,
+        &present.cert,
+        producer(placed.system, channel),
+    );
     ratio_of(&present.cert, number)
 }
 
@@ -117,28 +120,25 @@ fn lower_ratio(
 /// kept, and a way and labels what the ratio is with one more, where there is room for it. `present` is what `certify`
 /// made. It takes no memory, and looks twice at each edge of the present marked graph.
 pub fn slack_shown(
-    system: &System,
-    placement: &Placement,
+    placed: &Placed<'_>,
     present: &Certified,
     channel: u32,
     proposal: &Proposal,
 ) -> Option<PlainSlack>
-    requires system { IsWellFormed system.now }
-    requires fits { Fits system.now placement.now }
-    requires present { IsCertified (links_of system.now) placement.now present.now }
-    requires channel { channel < length system.now.channels }
-    ensures { IfSome result (IsSlackAndNext (links_of system.now) placement.now channel) }
+    requires present { IsCertified (links_in placed.now) placed.now.placement present.now }
+    requires channel { channel < length placed.now.system.channels }
+    ensures { IfSome result (IsSlackAndNext (links_in placed.now) placed.now.placement channel) }
 {
-    let most = room(placement, channel);
+    let most = room(placed.placement, channel);
     let added = proposal.added;
     if added > most {
         return None;
     }
     let probe = Probe {
-        system,
-        placement,
+        system: placed.system,
+        placement: placed.placement,
         channel,
-        present: present_ratio(system, placement, present, channel),
+        present: present_ratio(placed, present, channel),
     };
     let graph = &present.graph;
     if !is_present_kept(&probe, graph, added, &proposal.kept) {
@@ -162,22 +162,19 @@ pub fn slack_shown(
 /// Where there is no memory.
 pub fn slack_found(
     alloc: Global,
-    system: &System,
-    placement: &Placement,
+    placed: &Placed<'_>,
     present: &Certified,
     channel: u32,
     proposal: &Proposal,
 ) -> Result<PlainSlack, AllocError>
-    requires system { IsWellFormed system.now }
-    requires fits { Fits system.now placement.now }
-    requires present { IsCertified (links_of system.now) placement.now present.now }
-    requires channel { channel < length system.now.channels }
-    ensures { IfOk result (IsSlackAndNext (links_of system.now) placement.now channel) }
+    requires present { IsCertified (links_in placed.now) placed.now.placement present.now }
+    requires channel { channel < length placed.now.system.channels }
+    ensures { IfOk result (IsSlackAndNext (links_in placed.now) placed.now.placement channel) }
 {
-    if let Some(found) = slack_shown(system, placement, present, channel, proposal) {
+    if let Some(found) = slack_shown(placed, present, channel, proposal) {
         return Ok(found);
     }
-    let all = slack_from(alloc, system, placement, present, channel)?;
+    let all = slack_certified(alloc, placed, present, channel)?;
     Ok(PlainSlack {
         added: all.slack.added,
         next: all.next,
@@ -191,19 +188,16 @@ pub fn slack_found(
 /// Where there is no memory.
 pub fn slack_by_ways(
     alloc: Global,
-    system: &System,
-    placement: &Placement,
+    placed: &Placed<'_>,
     present: &Certified,
     channel: u32,
     ways: &mut Ways,
 ) -> Result<PlainSlack, AllocError>
-    requires system { IsWellFormed system.now }
-    requires fits { Fits system.now placement.now }
-    requires present { IsCertified (links_of system.now) placement.now present.now }
-    requires channel { channel < length system.now.channels }
-    ensures { IfOk result (IsSlackAndNext (links_of system.now) placement.now channel) }
+    requires present { IsCertified (links_in placed.now) placed.now.placement present.now }
+    requires channel { channel < length placed.now.system.channels }
+    ensures { IfOk result (IsSlackAndNext (links_in placed.now) placed.now.placement channel) }
 {
-    let most = room(placement, channel);
+    let most = room(placed.placement, channel);
     propose(ways, &present.graph, &present.cert, channel, most)?;
-    slack_found(alloc, system, placement, present, channel, &ways.proposal)
+    slack_found(alloc, placed, present, channel, &ways.proposal)
 }
