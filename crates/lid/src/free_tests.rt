@@ -3,7 +3,7 @@
 
 use crate::net_tests::{ONE_RELAY, RING};
 use crate::report_tests::DIAMOND;
-use crate::tests::{NONE_FAILS, done, ended, expect_further, expect_meeting, expect_run};
+use crate::tests::{done, expect_further, expect_meeting};
 use std::test::Fail;
 
 /// Further words, and what the ring with a relay station prints over four rows.

@@ -3,7 +3,7 @@
 
 use crate::net_tests::RING;
 use crate::report_tests::DIAMOND;
-use crate::tests::{NONE_FAILS, done, ended, expect_run};
+use crate::tests::{NONE_FAILS, done, expect_run};
 use std::alloc::AllocError;
 use std::process::Abort;
 use std::test::Fail;

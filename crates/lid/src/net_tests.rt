@@ -4,9 +4,7 @@
 use crate::tests::{NONE_FAILS, done, expect_outputs, expect_run, expect_strict};
 use std::alloc::{AllocError, Global};
 use std::fmt::Write;
-use std::process::Abort;
 use std::test::Fail;
-use std::thread::Threads;
 
 /// A ring of two registers that begin with different bits.
 pub const RING: &str = ".model ring\n.outputs y\n.subckt reg0 d=y q=w\n.subckt reg1 d=w q=y\n.end\n\

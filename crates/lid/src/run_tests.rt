@@ -2,7 +2,7 @@
 //! tables, from the numbers of the interleaving machine, and from the draws.
 
 use crate::net_tests::RING;
-use crate::tests::{Left, NONE_FAILS, REGISTER, done, ended, expect_run};
+use crate::tests::{Left, NONE_FAILS, REGISTER, done, expect_run};
 use std::test::Fail;
 
 /// Walks: netlist, rows, stations, schedule, and what is printed.

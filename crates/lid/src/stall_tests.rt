@@ -1,8 +1,7 @@
 //! Clocked runs under stalls, through the top call. What is expected is worked out by hand: a table of the firings
 //! cycle by cycle, and what each station then holds of the strict streams.
 
-use crate::clock_tests::STATIONED;
-use crate::tests::{NONE_FAILS, REGISTER, done, ended, expect_further, expect_run};
+use crate::tests::{NONE_FAILS, REGISTER, done, expect_run};
 use std::test::Fail;
 
 /// Rows, stalls, and what a register prints under them, with a trace of at most ten cycles. It has a station

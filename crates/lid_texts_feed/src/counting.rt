@@ -14,14 +14,18 @@ use std::alloc::Global;
 
 /// Takes a text to its end, and answers how many rows it has.
 fn count_all<S: Shelf>(text: &mut TextScan, shelf: &mut S, name: &str) -> Result<u64, FeedFault>
-    ensures counted { (columns : List (List ℕ)) (outs : ℕ) (known : List (List Bool)) → Knows (S.held shelf.old name.now) columns outs text.old text.old.count known
+    ensures counted { (columns : List (List ℕ)) (outs : ℕ) (known : List (List Bool))
+        → Knows (S.held shelf.old name.now) columns outs text.old text.old.count known
         → IfOk result (HasRows (S.held shelf.old name.now) columns outs) }
-    ensures refused { (columns : List (List ℕ)) (outs : ℕ) (known : List (List Bool)) → Knows (S.held shelf.old name.now) columns outs text.old text.old.count known
+    ensures refused { (columns : List (List ℕ)) (outs : ℕ) (known : List (List Bool))
+        → Knows (S.held shelf.old name.now) columns outs text.old text.old.count known
         → IfErr result (IfRefused (IsRefusedText (S.held shelf.old name.now) columns outs)) }
-    ensures came { (columns : List (List ℕ)) (outs : ℕ) (known : List (List Bool)) (first : Option (List Fetch)) → Knows (S.held shelf.old name.now) columns outs text.old text.old.count known
+    ensures came { (columns : List (List ℕ)) (outs : ℕ) (known : List (List Bool)) (first : Option (List Fetch))
+        → Knows (S.held shelf.old name.now) columns outs text.old text.old.count known
         → CameTo S.whole (S.held shelf.old name.now) name.now text.old.fetched first (S.fetches shelf.old) text.old.count
         → OnOk result (CameAs first (S.fetches shelf.new) (IsFetching S.whole (S.held shelf.old name.now) name.now most_bytes)) }
-    ensures begun { (columns : List (List ℕ)) (outs : ℕ) (known : List (List Bool)) (first : Option (List Fetch)) → Knows (S.held shelf.old name.now) columns outs text.old text.old.count known
+    ensures begun { (columns : List (List ℕ)) (outs : ℕ) (known : List (List Bool)) (first : Option (List Fetch))
+        → Knows (S.held shelf.old name.now) columns outs text.old text.old.count known
         → CameTo S.whole (S.held shelf.old name.now) name.now text.old.fetched first (S.fetches shelf.old) text.old.count
         → IfErr result (λ e. CameAs first (S.fetches shelf.new) (IsFetchedFor S.whole (S.held shelf.old name.now) name.now e)) }
     ensures still { OnOk result ((q : List ℕ) → S.faults shelf.new q ≡ S.faults shelf.old q) }

@@ -37,7 +37,8 @@ impl RowFeed {
     ) -> Result<RowFeed, AllocError>
         ensures given { (held : Option (List ℕ)) → IfOk result (λ feed. HasGiven held columns.now outs feed []) }
         ensures name { IfOk result (λ feed. feed.name ≡ name.now) }
-        ensures came { (whole : Bool) (held : Option (List ℕ)) (first : Option (List Fetch)) → IfOk result (λ feed. CameTo whole held name.now feed.text.fetched first first feed.text.count) }
+        ensures came { (whole : Bool) (held : Option (List ℕ)) (first : Option (List Fetch))
+            → IfOk result (λ feed. CameTo whole held name.now feed.text.fetched first first feed.text.count) }
     {
         Ok(RowFeed {
             name: Text::new(String::from_str(alloc, name)?),
@@ -58,7 +59,8 @@ impl RowFeed {
         ensures came { (columns : List (List ℕ)) (outs : ℕ) (given : List (List Bool)) (first : Option (List Fetch)) → self.old.text.count ≡ None
             → HasGiven (S.held shelf.old self.old.name) columns outs self.old given
             → CameTo S.whole (S.held shelf.old self.old.name) self.old.name self.old.text.fetched first (S.fetches shelf.old) self.old.text.count
-            → OnOk result (CameTo S.whole (S.held shelf.old self.old.name) self.old.name self.new.text.fetched first (S.fetches shelf.new) self.new.text.count) }
+            → OnOk result (CameTo S.whole (S.held shelf.old self.old.name) self.old.name self.new.text.fetched
+            first (S.fetches shelf.new) self.new.text.count) }
         ensures begun { (columns : List (List ℕ)) (outs : ℕ) (given : List (List Bool)) (first : Option (List Fetch)) → self.old.text.count ≡ None
             → HasGiven (S.held shelf.old self.old.name) columns outs self.old given
             → CameTo S.whole (S.held shelf.old self.old.name) self.old.name self.old.text.fetched first (S.fetches shelf.old) self.old.text.count
@@ -91,13 +93,17 @@ impl RowFeed {
     pub fn next<S: Shelf>(&mut self, shelf: &mut S) -> Result<Option<Items<bool>>, FeedFault>
         ensures given { (columns : List (List ℕ)) (outs : ℕ) (given : List (List Bool)) → HasGiven (S.held shelf.old self.old.name) columns outs self.old given
             → IfOk result (GivesNext (S.held shelf.old self.old.name) columns outs self.new given) }
-        ensures refused { (columns : List (List ℕ)) (outs : ℕ) (given : List (List Bool)) → HasGiven (S.held shelf.old self.old.name) columns outs self.old given
+        ensures refused { (columns : List (List ℕ)) (outs : ℕ) (given : List (List Bool))
+            → HasGiven (S.held shelf.old self.old.name) columns outs self.old given
             → IfErr result (IfRefused (IsRefusedText (S.held shelf.old self.old.name) columns outs)) }
         ensures waits { 0 < length self.old.rows.items → shelf.new ≡ shelf.old }
-        ensures came { (columns : List (List ℕ)) (outs : ℕ) (given : List (List Bool)) (first : Option (List Fetch)) → HasGiven (S.held shelf.old self.old.name) columns outs self.old given
+        ensures came { (columns : List (List ℕ)) (outs : ℕ) (given : List (List Bool)) (first : Option (List Fetch))
+            → HasGiven (S.held shelf.old self.old.name) columns outs self.old given
             → CameTo S.whole (S.held shelf.old self.old.name) self.old.name self.old.text.fetched first (S.fetches shelf.old) self.old.text.count
-            → OnOk result (CameTo S.whole (S.held shelf.old self.old.name) self.old.name self.new.text.fetched first (S.fetches shelf.new) self.new.text.count) }
-        ensures begun { (columns : List (List ℕ)) (outs : ℕ) (given : List (List Bool)) (first : Option (List Fetch)) → HasGiven (S.held shelf.old self.old.name) columns outs self.old given
+            → OnOk result (CameTo S.whole (S.held shelf.old self.old.name) self.old.name self.new.text.fetched
+            first (S.fetches shelf.new) self.new.text.count) }
+        ensures begun { (columns : List (List ℕ)) (outs : ℕ) (given : List (List Bool)) (first : Option (List Fetch))
+            → HasGiven (S.held shelf.old self.old.name) columns outs self.old given
             → CameTo S.whole (S.held shelf.old self.old.name) self.old.name self.old.text.fetched first (S.fetches shelf.old) self.old.text.count
             → IfErr result (λ e. CameAs first (S.fetches shelf.new) (IsFetchedFor S.whole (S.held shelf.old self.old.name) self.old.name e)) }
         ensures still { OnOk result ((q : List ℕ) → S.faults shelf.new q ≡ S.faults shelf.old q) }

@@ -91,10 +91,12 @@ impl TextScan {
             → IfOk result (TakesPiece (S.held shelf.old name.now) columns outs self.new bytes rows.old.items rows.new.items) }
         ensures further { IfOk result (λ more. more ≡ true → (self.old.fetched ≤ most_bytes) × (self.old.fetched < self.new.fetched)) }
         ensures count { self.new.count ≡ self.old.count }
-        ensures came { (columns : List (List ℕ)) (outs : ℕ) (bytes : List ℕ) (first : Option (List Fetch)) → HasFetched (S.held shelf.old name.now) columns outs self.old bytes
+        ensures came { (columns : List (List ℕ)) (outs : ℕ) (bytes : List ℕ) (first : Option (List Fetch))
+            → HasFetched (S.held shelf.old name.now) columns outs self.old bytes
             → CameAs first (S.fetches shelf.old) (FetchesSoFar S.whole (S.held shelf.old name.now) name.now most_bytes (length bytes))
             → IfOk result (CameSo S.whole (S.held shelf.old name.now) name.now self.new.fetched first (S.fetches shelf.new)) }
-        ensures begun { (columns : List (List ℕ)) (outs : ℕ) (bytes : List ℕ) (first : Option (List Fetch)) → HasFetched (S.held shelf.old name.now) columns outs self.old bytes
+        ensures begun { (columns : List (List ℕ)) (outs : ℕ) (bytes : List ℕ) (first : Option (List Fetch))
+            → HasFetched (S.held shelf.old name.now) columns outs self.old bytes
             → CameAs first (S.fetches shelf.old) (FetchesSoFar S.whole (S.held shelf.old name.now) name.now most_bytes (length bytes))
             → OnErr result (CameInPart S.whole (S.held shelf.old name.now) name.now first (S.fetches shelf.new)) }
         ensures still { OnOk result ((q : List ℕ) → S.faults shelf.new q ≡ S.faults shelf.old q) }
@@ -116,9 +118,11 @@ impl TextScan {
 
     /// Takes the end of the text.
     fn finish(&mut self, rows: &mut Vec<Items<bool>>) -> Result<(), FeedFault>
-        ensures finished { (columns : List (List ℕ)) (outs : ℕ) (bytes : List ℕ) (known : List (List Bool)) (held : Option (List ℕ)) → HasFetched held columns outs self.old bytes → IsText held bytes → known ≡ ended_rows columns outs bytes
+        ensures finished { (columns : List (List ℕ)) (outs : ℕ) (bytes : List ℕ) (known : List (List Bool)) (held : Option (List ℕ))
+            → HasFetched held columns outs self.old bytes → IsText held bytes → known ≡ ended_rows columns outs bytes
             → OnOk result (KnowsMore held columns outs self.new known rows.old.items rows.new.items) }
-        ensures refused { (columns : List (List ℕ)) (outs : ℕ) (bytes : List ℕ) (held : Option (List ℕ)) → HasFetched held columns outs self.old bytes → IsText held bytes
+        ensures refused { (columns : List (List ℕ)) (outs : ℕ) (bytes : List ℕ) (held : Option (List ℕ))
+            → HasFetched held columns outs self.old bytes → IsText held bytes
             → IfErr result (IfRefused (IsRefusedText held columns outs)) }
         ensures unread { IfErr result (IfRead ⊥) }
         ensures ended { OnOk result (IsSome self.new.count) }

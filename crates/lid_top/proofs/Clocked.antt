@@ -1,5 +1,5 @@
 -- What a job shows that is `clock`.
-use Rattle.std.proofs.Common.{◌≡◌, ℕ, true, List, Option, Result, IfErr, sym, ◌∙◌, ap, subst}
+use Rattle.std.proofs.Common.{◌≡◌, ℕ, List, Option, Result, IfErr, sym, ◌∙◌, ap, subst}
 use Rattle.lid_top_words.specs.declared.job.Job.{Job}
 use Rattle.lid_top_words.specs.declared.job.Job.TheVariants.{Clock}
 use Rattle.lid_top_script.specs.declared.fault.JobEnd.{JobEnd}

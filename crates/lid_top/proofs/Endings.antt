@@ -10,7 +10,7 @@ use Rattle.lid_net.specs.Graphs.{IsGraphOf}
 use Rattle.lid_top_words.specs.declared.job.Job.{Job}
 use Rattle.lid_top_words.specs.declared.job.Job.TheVariants.{Check, Clock, Emit, Free, Gen, Place, Rate, Size, Slack, Strict, Unwave, Verify, Walk, Wave}
 use Rattle.lid_top_refusals.specs.Faults.{check_line, net_line}
-use Rattle.lid_top_script.specs.Outputs.{Output, strict_output, report, placed, throughput, sized, slacks, walked, waved, unwaved, emitted}
+use Rattle.lid_top_script.specs.Outputs.{Output, strict_output, placed, throughput, sized, slacks, walked, waved, unwaved, emitted}
 use Rattle.lid_cert.specs.declared.cert.Cert.{Cert}
 use Rattle.lid_stall_text.specs.declared.stalls.Stall.{Stall}
 use Rattle.lid_stations.specs.declared.placement.Placement.{Placement}

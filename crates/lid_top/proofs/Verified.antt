@@ -1,5 +1,5 @@
 -- What `rate` prints is verified by `verify`.
-use Rattle.std.proofs.Common.{◌≡◌, ◌≢◌, ◌↔◌, ℕ, ◌≤◌, Bool, true, false, true≢false, List, length, take, Option, Some, None, IfSome, inl, inr, refl, sym, ◌∙◌, ap, subst, arith}
+use Rattle.std.proofs.Common.{◌≡◌, ◌≢◌, ℕ, ◌≤◌, Bool, true, false, true≢false, List, length, take, Option, Some, None, IfSome, inl, inr, refl, sym, ◌∙◌, ap, subst, arith}
 use Rattle.std.specs.Prelude.{is_some}
 use Rattle.std.proofs.lemmas.List.{take_all}
 use Rattle.lid_base.specs.Lines.{logical_lines}
@@ -8,7 +8,6 @@ use Rattle.lid_base_lines.specs.declared.limited.LinesFault.{LinesFault}
 use Rattle.lid_base_lines.specs.Limited.{limited_fault}
 use Rattle.lid_base_lines.proofs.WithinLimits.{short_lines}
 use Rattle.lid_design.specs.declared.Design.{Design}
-use Rattle.lid_system.specs.declared.Channel.{Channel}
 use Rattle.lid_cert.specs.declared.cert.Cert.{Cert}
 use Rattle.lid_cert_text.specs.Texts.{cert_of, cert_fault, fault_in}
 use Rattle.lid_cert_text.specs.Written.{cert_text}
@@ -17,7 +16,7 @@ use Rattle.lid_stations.specs.Placements.{Links, no_relays}
 use Rattle.lid_stations.specs.Markings.{marking}
 use Rattle.lid_rate_text.specs.Throughput.{IsRateText}
 use Rattle.lid_top_script.specs.Outputs.{Output, throughput, verdict, IsTextOf}
-use Rattle.lid_top_script.specs.Scripts.{Ending, refuses, denies, gives, Script, end, Reading, good, bad, read_then, net_limit, net_reading, text_limit, links, check_step, net_step, system_step, stations_read, placement_step, cert_unless, cert_read, told_script, IsVerdictOn, NoLine, judged_script, judging_script, cert_script, telling_script, verify_script, IsFetched, EndsIn}
+use Rattle.lid_top_script.specs.Scripts.{Ending, refuses, denies, gives, Script, Reading, good, bad, read_then, net_reading, text_limit, links, check_step, net_step, system_step, stations_read, placement_step, cert_unless, cert_read, told_script, judging_script, cert_script, telling_script, verify_script, IsFetched, EndsIn}
 use Rattle.lid_top_script.specs.Statuses.{HasText}
 use Rattle.lid_top.specs.Verified.{RatesAreVerified}
 

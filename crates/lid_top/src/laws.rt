@@ -9,7 +9,8 @@ ghost use Rattle.lid_top.specs.Verified.{RatesAreVerified};
 /// Where the shelf tells all files that a job reaches, the job ends in one way. So which status comes,
 /// and which refusal is told, is a function of what the files hold, but for want of memory.
 pub fn a_told_job_ends_in_one_way()
-    ensures { (held : List ℕ → Option (List ℕ)) (job : Job) (x y : Ending) → TellsAll held (script_of job) → EndsIn held (script_of job) x → EndsIn held (script_of job) y → x ≡ y }
+    ensures { (held : List ℕ → Option (List ℕ)) (job : Job) (x y : Ending) → TellsAll held (script_of job) → EndsIn held (script_of job) x
+        → EndsIn held (script_of job) y → x ≡ y }
 {}
 
 /// What `rate` prints is verified: where a file holds such a text, `verify` of that file, with the same

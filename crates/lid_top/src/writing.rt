@@ -17,7 +17,8 @@ pub(crate) fn write_text<'a, O: Sink>(
 ) -> Result<(), JobEnd<'a>>
     ensures ok { OnOk result (Appended (O.written out.old) (O.written out.new) text.now) }
     ensures stopped { IfErr result (λ end. IsStoppedJob end → (end ≡ JobEnd.Stopped Stop.Memory) × (out.new ≡ out.old)) }
-    ensures unwritten { IfErr result (λ end. (end ≡ JobEnd.Unwritten) → Rose (O.faults out.old) (O.faults out.new) × AppendedPrefix (O.written out.old) (O.written out.new) text.now) }
+    ensures unwritten { IfErr result (λ end. (end ≡ JobEnd.Unwritten) → Rose (O.faults out.old) (O.faults out.new)
+        × AppendedPrefix (O.written out.old) (O.written out.new) text.now) }
 {
     let Ok(mut writer) = PieceWriter::start(alloc) else {
         return Err(JobEnd::Stopped(Stop::Memory));

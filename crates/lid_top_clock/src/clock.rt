@@ -48,7 +48,8 @@ fn run_wrapped<'a, S: Shelf, O: Sink, R: Threads + AllocGlobal + Sync, G: Gate>(
     asked: &Asked<'a>,
 ) -> Result<(), JobEnd<'a>>
     requires some { 0 < workers.now.many }
-    ensures ran { RunsEarly (S.held shelf.old) (after_stations asked.now wrapped.now) (S.faults shelf.old) (S.faults shelf.new) O.written O.faults out.old out.new result }
+    ensures ran { RunsEarly (S.held shelf.old) (after_stations asked.now wrapped.now)
+        (S.faults shelf.old) (S.faults shelf.new) O.written O.faults out.old out.new result }
     ensures kept { S.held shelf.new ≡ S.held shelf.old }
 {
     match read_job_stalls(workers.rt.alloc(), shelf, asked.stalls) {
@@ -68,7 +69,8 @@ fn run_stalled<'a, S: Shelf, O: Sink, R: Threads + AllocGlobal + Sync, G: Gate>(
 ) -> Result<(), JobEnd<'a>>
     requires some { 0 < workers.now.many }
     requires ascend { Ascend (listed stalls) }
-    ensures ran { RunsEarly (S.held shelf.old) (after_stalls asked.now wrapped.now stalls) (S.faults shelf.old) (S.faults shelf.new) O.written O.faults out.old out.new result }
+    ensures ran { RunsEarly (S.held shelf.old) (after_stalls asked.now wrapped.now stalls)
+        (S.faults shelf.old) (S.faults shelf.new) O.written O.faults out.old out.new result }
     ensures kept { S.held shelf.new ≡ S.held shelf.old }
 {
     match count_rows(workers.rt.alloc(), shelf, wrapped, asked.vec) {
@@ -88,7 +90,8 @@ fn run_counted<'a, S: Shelf, O: Sink, R: Threads + AllocGlobal + Sync, G: Gate>(
 ) -> Result<(), JobEnd<'a>>
     requires some { 0 < workers.now.many }
     ensures ran { (rows : List (List Bool)) → IsCounted (S.held shelf.old) asked.now wrapped.now given.rows rows
-        → RunsEarly (S.held shelf.old) (after_rows asked.now wrapped.now given.stalls rows) (S.faults shelf.old) (S.faults shelf.new) O.written O.faults out.old out.new result }
+        → RunsEarly (S.held shelf.old) (after_rows asked.now wrapped.now given.stalls rows)
+        (S.faults shelf.old) (S.faults shelf.new) O.written O.faults out.old out.new result }
     ensures kept { S.held shelf.new ≡ S.held shelf.old }
 {
     match judge_trace(wrapped, &asked.trace) {
@@ -109,7 +112,8 @@ fn run_again<'a, S: Shelf, O: Sink, R: Threads + AllocGlobal + Sync, G: Gate>(
 ) -> Result<(), JobEnd<'a>>
     requires some { 0 < workers.now.many }
     ensures ran { (rows : List (List Bool)) → IsCounted (S.held shelf.old) asked.now wrapped.now given.rows rows
-        → RunsEarly (S.held shelf.old) (after_trace asked.now wrapped.now given.stalls rows) (S.faults shelf.old) (S.faults shelf.new) O.written O.faults out.old out.new result }
+        → RunsEarly (S.held shelf.old) (after_trace asked.now wrapped.now given.stalls rows)
+        (S.faults shelf.old) (S.faults shelf.new) O.written O.faults out.old out.new result }
     ensures kept { S.held shelf.new ≡ S.held shelf.old }
 {
     let checked = &wrapped.checked;

@@ -1,7 +1,7 @@
 //! Telling a run line by line.
 
 ghost use Rattle.std.specs.Prelude.{◌≡◌, ◌≤◌, [], IfOk, OnOk, OnErr, IfErr};
-ghost use Rattle.lid_base.specs.Outside.{Rose, AppendedPrefix};
+ghost use Rattle.lid_base.specs.Outside.{Rose};
 ghost use Rattle.lid_clock.specs.Ran.{lent};
 ghost use Rattle.lid_base_lines.specs.Texts.{line_text};
 ghost use Rattle.lid_texts.specs.Rows.{header_words};

@@ -56,7 +56,8 @@ fn next_row<S: Shelf>(
 ) -> Result<Items<bool>, RunFault>
     ensures ok { (r : ClockRun) (rows : List (List Bool)) → r.held ≡ S.held shelf.old feed.old.name → FeedGives r feed.old rows
         → IfOk result (GivesRow r.held (source_columns r.system) (length r.columns) feed.new rows) }
-    ensures err { (r : ClockRun) (rows : List (List Bool)) → r.held ≡ S.held shelf.old feed.old.name → FeedGives r feed.old rows → given ≡ length rows → given < r.rows
+    ensures err { (r : ClockRun) (rows : List (List Bool)) → r.held ≡ S.held shelf.old feed.old.name → FeedGives r feed.old rows → given ≡ length rows
+        → given < r.rows
         → IfErr result (IsRunCause r rows (Rose (S.faults shelf.old feed.old.name) (S.faults shelf.new feed.old.name)) ⊥) }
     ensures name { feed.new.name ≡ feed.old.name }
     ensures kept { S.held shelf.new ≡ S.held shelf.old }
@@ -137,11 +138,14 @@ impl Running {
         requires fits { Fits task.now.system.now task.now.placement.now }
         requires few { task.now.rows ≤ 1000000 }
         requires ascend { Ascend (listed stalls) }
-        requires feeds { (columns : List (List ℕ)) × HasGiven (S.held shelf.old feed.old.name) (source_columns task.now.system.now) (length columns) feed.old [] }
-        ensures ok { (r : ClockRun) → r.system ≡ task.now.system.now → r.placement ≡ task.now.placement.now → r.rows ≡ task.now.rows → r.trace ≡ task.now.trace → r.stalls ≡ stalls → r.held ≡ S.held shelf.old feed.old.name → FeedGives r feed.old []
+        requires feeds { (columns : List (List ℕ)) × HasGiven (S.held shelf.old feed.old.name)
+            (source_columns task.now.system.now) (length columns) feed.old [] }
+        ensures ok { (r : ClockRun) → r.system ≡ task.now.system.now → r.placement ≡ task.now.placement.now → r.rows ≡ task.now.rows → r.trace ≡ task.now.trace
+            → r.stalls ≡ stalls → r.held ≡ S.held shelf.old feed.old.name → FeedGives r feed.old []
             → IfOk result (λ run. (given : List (List Bool)) × IsRunning r run given × FeedGives r feed.new given) }
         ensures made { IfOk result (λ run. run.made ≡ 0) }
-        ensures err { (r : ClockRun) → r.system ≡ task.now.system.now → r.rows ≡ task.now.rows → r.held ≡ S.held shelf.old feed.old.name → FeedGives r feed.old []
+        ensures err { (r : ClockRun) → r.system ≡ task.now.system.now → r.rows ≡ task.now.rows → r.held ≡ S.held shelf.old feed.old.name
+            → FeedGives r feed.old []
             → IfErr result (IsRunCause r [] (Rose (S.faults shelf.old feed.old.name) (S.faults shelf.new feed.old.name)) ⊥) }
         ensures name { feed.new.name ≡ feed.old.name }
         ensures kept { S.held shelf.new ≡ S.held shelf.old }
@@ -223,10 +227,12 @@ impl Running {
         workers: &Workers<'_, R, G>,
     ) -> Result<(), RunFault>
         requires some { 0 < workers.now.many }
-        requires fed { (r : ClockRun) × (given : List (List Bool)) × IsFed r (S.held shelf.old feed.old.name) self.old feed.old given × HasNotEnded r self.old given }
+        requires fed { (r : ClockRun) × (given : List (List Bool)) × IsFed r (S.held shelf.old feed.old.name) self.old feed.old given
+            × HasNotEnded r self.old given }
         ensures ok { (r : ClockRun) (given : List (List Bool)) → IsFed r (S.held shelf.old feed.old.name) self.old feed.old given → HasNotEnded r self.old given
             → OnOk result (HasMadeCycle r given self.old.made self.new feed.new) }
-        ensures err { (r : ClockRun) (given : List (List Bool)) → IsFed r (S.held shelf.old feed.old.name) self.old feed.old given → HasNotEnded r self.old given
+        ensures err { (r : ClockRun) (given : List (List Bool)) → IsFed r (S.held shelf.old feed.old.name) self.old feed.old given
+            → HasNotEnded r self.old given
             → IfErr result (IsRunCause r given (Rose (S.faults shelf.old feed.old.name) (S.faults shelf.new feed.old.name)) ⊥) }
         ensures name { feed.new.name ≡ feed.old.name }
         ensures kept { S.held shelf.new ≡ S.held shelf.old }

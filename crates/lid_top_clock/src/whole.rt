@@ -31,13 +31,16 @@ fn tell_run<S: Shelf, O: Sink, R: Threads + Sync, G: Gate>(
     workers: &Workers<'_, R, G>,
 ) -> Result<(), RunFault>
     requires some { 0 < workers.now.many }
-    requires fed { (r : ClockRun) × (given : List (List Bool)) × IsRunOf r task.now.system.now task.now.columns.now × IsFed r (S.held shelf.old feed.old.name) run.old feed.old given }
+    requires fed { (r : ClockRun) × (given : List (List Bool)) × IsRunOf r task.now.system.now task.now.columns.now
+        × IsFed r (S.held shelf.old feed.old.name) run.old feed.old given }
     requires none { run.old.made ≡ 0 }
     requires line { telling.old.line.items ≡ [] }
     requires held { telling.old.writer ≡ [] }
-    ensures ok { (r : ClockRun) (given : List (List Bool)) → IsRunOf r task.now.system.now task.now.columns.now → IsFed r (S.held shelf.old feed.old.name) run.old feed.old given
+    ensures ok { (r : ClockRun) (given : List (List Bool)) → IsRunOf r task.now.system.now task.now.columns.now
+        → IsFed r (S.held shelf.old feed.old.name) run.old feed.old given
         → OnOk result (HasRun r (O.written out.old) (O.written out.new)) }
-    ensures err { (r : ClockRun) (given : List (List Bool)) → IsRunOf r task.now.system.now task.now.columns.now → IsFed r (S.held shelf.old feed.old.name) run.old feed.old given
+    ensures err { (r : ClockRun) (given : List (List Bool)) → IsRunOf r task.now.system.now task.now.columns.now
+        → IsFed r (S.held shelf.old feed.old.name) run.old feed.old given
         → IfErr result (HasStopped r (O.written out.old) (O.written out.new)
         (Rose (S.faults shelf.old feed.old.name) (S.faults shelf.new feed.old.name)) (Rose (O.faults out.old) (O.faults out.new))) }
     ensures kept { S.held shelf.new ≡ S.held shelf.old }

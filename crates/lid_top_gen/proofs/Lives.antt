@@ -1,7 +1,7 @@
 -- The run of the system of a design for rows: there is one, and what is counted of it is told of the design.
-use Rattle.std.proofs.Common.{◌≡◌, ℕ, ◌+◌, ◌-◌, ◌≤◌, if◌then◌else◌, Bool, List, [], ◌∷◌, length, map, None, refl, sym, ◌∙◌, ap, subst, arith}
+use Rattle.std.proofs.Common.{◌≡◌, ℕ, ◌-◌, ◌≤◌, Bool, List, [], length, map, refl, sym, ◌∙◌, ap, arith}
 use Rattle.std.proofs.lemmas.List.{length-map}
-use Rattle.std.specs.List.{AllByRecursion, sum_by}
+use Rattle.std.specs.List.{AllByRecursion}
 use Rattle.std.specs.Option.{option_map_or}
 use Rattle.lid_design.specs.declared.Design.{Design}
 use Rattle.lid_design.specs.Network.{Table, IsStrict}
@@ -29,7 +29,7 @@ use Rattle.lid_shell_laws.specs.Runs.{cap_of, sink_of}
 use Rattle.lid_shell_laws.proofs.Caps.{cap_of_sink}
 use Rattle.lid_clock.specs.Lives.{Life, sink}
 use Rattle.lid_shell_laws.specs.Setups.{IsInputRow}
-use Rattle.lid_clock.specs.Clocks.{IsFreeLife, IsOver, rows_after}
+use Rattle.lid_clock.specs.Clocks.{IsFreeLife}
 use Rattle.lid_top_script.specs.Generated.{ones_of}
 use Rattle.lid_top_gen.specs.Counts.{HasLife, AreRunCounts}
 use Rattle.lid_base.proofs.Each.{each_same}

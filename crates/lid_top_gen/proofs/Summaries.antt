@@ -1,13 +1,12 @@
 -- What is counted of the run of a generated design is its summary.
-use Rattle.std.proofs.Common.{◌≡◌, ℕ, ◌+◌, ◌≤◌, Bool, List, length, replicate, None, refl, sym, ◌∙◌, ap, subst, arith}
+use Rattle.std.proofs.Common.{◌≡◌, ℕ, ◌≤◌, Bool, List, length, refl, ◌∙◌, ap, subst, arith}
 use Rattle.std.specs.List.{AllByRecursion}
 use Rattle.lid_net_law.specs.Agreement.{IsSystemOf}
 use Rattle.lid_design.specs.declared.Design.{Design}
 use Rattle.lid_design.specs.Walks.{HasTable}
-use Rattle.lid_design.specs.Loops.{pearls}
 use Rattle.lid_design.specs.Columns.{drivers, root_inputs, root_outputs, output_rows}
 use Rattle.lid_gen.specs.Designs.{generated}
-use Rattle.lid_gen.specs.Runs.{generated_rows, generated_relays}
+use Rattle.lid_gen.specs.Runs.{generated_rows}
 use Rattle.lid_graph.specs.Firings.{no_hold, IsFirstAtCap}
 use Rattle.lid_graph.specs.Ratios.{IsRatio}
 use Rattle.lid_net.specs.Graphs.{IsGraphOf}
@@ -15,9 +14,9 @@ use Rattle.lid_shell_laws.specs.Runs.{cap_of, sink_of}
 use Rattle.lid_system.specs.declared.System.{System}
 use Rattle.lid_system.specs.Systems.{IsWellFormed}
 use Rattle.lid_stations.specs.declared.placement.Placement.{Placement}
-use Rattle.lid_stations.specs.Placements.{Links, links_of, station_count, Fits}
+use Rattle.lid_stations.specs.Placements.{Links, links_of, Fits}
 use Rattle.lid_stations.specs.Markings.{marking}
-use Rattle.lid_top_script.specs.Generated.{Summary, IsSummary, generated_links, generated_placement}
+use Rattle.lid_top_script.specs.Generated.{IsSummary, generated_links, generated_placement}
 use Rattle.lid_top_gen.specs.Counts.{AreRunCounts}
 use Rattle.lid_top_gen.proofs.Lives.{are_outs, is_over, ones_are}
 

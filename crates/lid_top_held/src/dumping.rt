@@ -19,7 +19,8 @@ use std::alloc::{AllocError, Global};
 /// Appends what each station shows.
 fn push_cells(run: &Clocked, stations: u32, cells: &mut Vec<Shown>) -> Result<(), AllocError>
     requires { (l : Life) × (k : ℕ) × Clocks l k run.now × (stations ≡ station_count l.setup.placement.relays) }
-    ensures { (l : Life) (k : ℕ) → Clocks l k run.now → stations ≡ station_count l.setup.placement.relays → OnOk result (cells.new.items ≡ cells.old.items ++ life_cells l k) }
+    ensures { (l : Life) (k : ℕ) → Clocks l k run.now → stations ≡ station_count l.setup.placement.relays
+        → OnOk result (cells.new.items ≡ cells.old.items ++ life_cells l k) }
 {
     for station in 0..stations {
         cells.push(run.show(station))?;
@@ -32,7 +33,8 @@ fn push_cells(run: &Clocked, stations: u32, cells: &mut Vec<Shown>) -> Result<()
 fn trace_cycle(run: &mut Clocked, stations: u32, cells: &mut Vec<Shown>) -> Result<bool, AllocError>
     requires { (l : Life) × (k : ℕ) × Clocks l k run.old × (stations ≡ station_count l.setup.placement.relays) }
     ensures made { (l : Life) (k : ℕ) → Clocks l k run.old → IfOk result (λ made. made ≡ true → Clocks l (suc k) run.new) }
-    ensures shown { (l : Life) (k : ℕ) → Clocks l k run.old → stations ≡ station_count l.setup.placement.relays → IfOk result (λ made. made ≡ true → cells.new.items ≡ cells.old.items ++ life_cells l k) }
+    ensures shown { (l : Life) (k : ℕ) → Clocks l k run.old → stations ≡ station_count l.setup.placement.relays
+        → IfOk result (λ made. made ≡ true → cells.new.items ≡ cells.old.items ++ life_cells l k) }
     ensures still { IfOk result (λ made. made ≡ false → cells.new.items ≡ cells.old.items) }
     ensures below { (l : Life) (k : ℕ) → Clocks l k run.old → IfOk result (λ made. (made ≡ true) ↔ IsBelow l k) }
 {
@@ -97,7 +99,8 @@ fn dump_of(alloc: Global, trace: &Trace) -> Result<Vec<u8>, AllocError>
 pub(crate) fn dump_text(alloc: Global, fed: &Fed<'_>, cycles: u64) -> Result<Vec<u8>, AllocError>
     requires most { cycles ≤ 1048576 }
     requires cells { station_count fed.now.wrapped.now.placement.relays * cycles ≤ 1048576 }
-    ensures { IfOk result (λ text. IsWaveText fed.now.wrapped.now.design (links_of fed.now.wrapped.now.system) fed.now.wrapped.now.placement fed.now.rows.now.bits cycles text.items) }
+    ensures { IfOk result (λ text. IsWaveText fed.now.wrapped.now.design (links_of fed.now.wrapped.now.system)
+        fed.now.wrapped.now.placement fed.now.rows.now.bits cycles text.items) }
 {
     let wrapped = fed.wrapped;
     let _ = wrapped.checked.design();

@@ -18,7 +18,8 @@ use std::thread::Threads;
 
 /// What is told of a free run: the rows, and the tallies where these are asked for.
 fn end_text(alloc: Global, end: &FreeEnd, tally: bool) -> Result<Vec<u8>, AllocError>
-    ensures { IfOk result (λ text. text.items ≡ rows_text end.now.rows.columns end.now.rows.bits ++ (if tally then tallies_text end.now.tallies end.now.finish end.now.finish_fired else [])) }
+    ensures { IfOk result (λ text. text.items ≡ rows_text end.now.rows.columns end.now.rows.bits
+        ++ (if tally then tallies_text end.now.tallies end.now.finish end.now.finish_fired else [])) }
 {
     let mut text = Vec::new(alloc);
     print_rows(&end.rows, &mut text)?;
@@ -45,7 +46,8 @@ fn run_text<R: Threads + AllocGlobal + Sync, G: Gate>(
     requires some { 1 ≤ workers }
     requires most { workers ≤ 64 }
     requires rounds { rounds ≤ 1000000 }
-    ensures { IfOk result (λ text. IsFreeText fed.now.wrapped.now.design (links_of fed.now.wrapped.now.system) fed.now.wrapped.now.placement fed.now.rows.now.bits workers rounds tally text.items) }
+    ensures { IfOk result (λ text. IsFreeText fed.now.wrapped.now.design (links_of fed.now.wrapped.now.system)
+        fed.now.wrapped.now.placement fed.now.rows.now.bits workers rounds tally text.items) }
 {
     let wrapped = fed.wrapped;
     let _ = wrapped.checked.design();
@@ -74,7 +76,8 @@ pub(crate) fn freed_text<'a, R: Threads + AllocGlobal + Sync, G: Gate>(
     requires some { 1 ≤ workers }
     requires most { workers ≤ 64 }
     requires rounds { rounds ≤ 1000000 }
-    ensures { RunsAnywhere (freeing_script fed.now.wrapped.now.design (links_of fed.now.wrapped.now.system) fed.now.wrapped.now.placement workers rounds tally fed.now.rows.now.bits) result }
+    ensures { RunsAnywhere (freeing_script fed.now.wrapped.now.design (links_of fed.now.wrapped.now.system)
+        fed.now.wrapped.now.placement workers rounds tally fed.now.rows.now.bits) result }
 {
     match run_text(rt, gate, fed, workers, rounds, tally) {
         Ok(text) => Ok(text),

@@ -32,7 +32,8 @@ fn actors_of(wrapped: &Wrapped) -> u32
 fn walk_on(walk: &mut Walk<'_>, schedule: &[u32], into: &mut Vec<u8>) -> Result<(), AllocError>
     requires { (m : Setup) × (st : State) × Walks m st walk.old × AllByRecursion (λ v. v < actors_of (plan m)) schedule.now }
     ensures walks { OnOk result ((m : Setup) (st : State) → Walks m st walk.old → Walks m (after_all (plan m) st schedule.now) walk.new) }
-    ensures lines { OnOk result ((m : Setup) (st : State) → Walks m st walk.old → into.new.items ≡ into.old.items ++ answer_lines schedule.now (answers (plan m) st schedule.now)) }
+    ensures lines { OnOk result ((m : Setup) (st : State) → Walks m st walk.old → into.new.items
+        ≡ into.old.items ++ answer_lines schedule.now (answers (plan m) st schedule.now)) }
 {
     for actor in schedule {
         let answer = walk.step(*actor);
@@ -44,7 +45,8 @@ fn walk_on(walk: &mut Walk<'_>, schedule: &[u32], into: &mut Vec<u8>) -> Result<
 /// The text of a walk along a schedule.
 fn lines_text(alloc: Global, fed: &Fed<'_>, schedule: &[u32]) -> Result<Vec<u8>, AllocError>
     requires { AllByRecursion (λ v. v < actor_count (links_of fed.now.wrapped.now.system) fed.now.wrapped.now.placement) schedule.now }
-    ensures { IfOk result (λ text. IsWalkText fed.now.wrapped.now.design (links_of fed.now.wrapped.now.system) fed.now.wrapped.now.placement fed.now.rows.now.bits schedule.now text.items) }
+    ensures { IfOk result (λ text. IsWalkText fed.now.wrapped.now.design (links_of fed.now.wrapped.now.system)
+        fed.now.wrapped.now.placement fed.now.rows.now.bits schedule.now text.items) }
 {
     let wrapped = fed.wrapped;
     let _ = wrapped.checked.design();
@@ -62,7 +64,8 @@ pub(crate) fn walked_text<'a, S: Shelf>(
     fed: &Fed<'_>,
     schedule: &'a str,
 ) -> Result<Vec<u8>, Stop<'a>>
-    ensures { RunsOn S.held S.faults shelf.old shelf.new (schedule_script fed.now.wrapped.now.design (links_of fed.now.wrapped.now.system) fed.now.wrapped.now.placement schedule.now fed.now.rows.now.bits) result }
+    ensures { RunsOn S.held S.faults shelf.old shelf.new (schedule_script fed.now.wrapped.now.design (links_of fed.now.wrapped.now.system)
+        fed.now.wrapped.now.placement schedule.now fed.now.rows.now.bits) result }
 {
     match read_schedule_file(alloc, shelf, actors_of(fed.wrapped), schedule) {
         Ok(list) => match lines_text(alloc, fed, list.as_slice()) {

@@ -1,6 +1,5 @@
 //! Why a reading, a check or a limit refuses, and the lines that say so and say the other statuses.
 
-ghost use Rattle.std.specs.Prelude.{◌≡◌};
 ghost use Rattle.lid_top_refusals.specs.Faults.{usage_line, read_line, write_line, memory_line, denied_line};
 ghost use Rattle.lid_top_refusals.specs.Refusals.{refusal_line};
 ghost use Rattle.lid_top_refusals.specs.Saying.{Says};

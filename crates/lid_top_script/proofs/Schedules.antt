@@ -1,5 +1,5 @@
 -- What is said of schedules that are read.
-use Rattle.std.proofs.Common.{◌≡◌, ℕ, ◌+◌, ◌^◌, ◌<◌, ◌⊎◌, inl, inr, nat_lt, if◌then◌else◌, Bool, true, false, unwrap_or, List, [], ◌∷◌, length, map, Option, Some, None, sym, ap, subst, refl}
+use Rattle.std.proofs.Common.{◌≡◌, ℕ, ◌+◌, ◌^◌, ◌<◌, ◌⊎◌, inl, inr, nat_lt, if◌then◌else◌, Bool, true, false, unwrap_or, List, [], ◌∷◌, map, Option, Some, None, sym, ap, subst, refl}
 use Rattle.std.specs.Prelude.{Result, Ok, Err}
 use Rattle.std.specs.List.{AllByRecursion, enumerate_from}
 use Rattle.std.proofs.lemmas.Bool.{ltb-true}

@@ -11,7 +11,6 @@ use Rattle.lid_blif.specs.declared.fault.BlifFault.TheVariants as blif
 use Rattle.lid_texts.specs.declared.rows.VecFault.{VecFault}
 use Rattle.lid_texts.specs.declared.rows.VecFault.TheVariants as rows
 use Rattle.lid_design.specs.declared.Design.{Design}
-use Rattle.lid_system.specs.declared.Channel.{Channel}
 use Rattle.lid_stations.specs.declared.placement.Placement.{Placement}
 use Rattle.lid_stations.specs.Placements.{Links, links_of, no_relays}
 use Rattle.lid_check_rules.specs.declared.fault.CheckFault.{CheckFault}

@@ -43,7 +43,8 @@ fn read_stations_file<'a, S: Shelf>(
     requires { IsSystem system.now }
     ensures ok { IfOk result (Got (S.held shelf.old) stations.now text_limit (stations_read (links_of system.now))) }
     ensures fits { IfOk result (Fits system.now) }
-    ensures err { IfErr result (Misses (S.held shelf.old) stations.now text_limit (stations_read (links_of system.now)) (S.faults shelf.old) (S.faults shelf.new)) }
+    ensures err { IfErr result (Misses (S.held shelf.old) stations.now text_limit (stations_read (links_of system.now))
+        (S.faults shelf.old) (S.faults shelf.new)) }
     ensures kept { S.held shelf.new ≡ S.held shelf.old }
     ensures grows { (q : List ℕ) → S.faults shelf.old q ≤ S.faults shelf.new q }
 {
@@ -108,7 +109,8 @@ pub fn read_wires<'a, S: Shelf>(
     requires reach { 1 ≤ reach }
     ensures ok { IfOk result (Got (S.held shelf.old) wires.now text_limit (wires_read reach (links_of system.now))) }
     ensures fits { IfOk result (Fits system.now) }
-    ensures err { IfErr result (Misses (S.held shelf.old) wires.now text_limit (wires_read reach (links_of system.now)) (S.faults shelf.old) (S.faults shelf.new)) }
+    ensures err { IfErr result (Misses (S.held shelf.old) wires.now text_limit (wires_read reach (links_of system.now))
+        (S.faults shelf.old) (S.faults shelf.new)) }
     ensures kept { S.held shelf.new ≡ S.held shelf.old }
     ensures grows { (q : List ℕ) → S.faults shelf.old q ≤ S.faults shelf.new q }
 {

@@ -53,7 +53,8 @@ pub fn read_wrapped<'a, S: Shelf>(
     files: &NetFiles<'a>,
 ) -> Result<Wrapped, Stop<'a>>
     ensures ok { IfOk result (GotWrapped (S.held shelf.old) files.now.net.now files.now.stations.now files.now.root.now) }
-    ensures err { IfErr result (MissesWrapped (S.held shelf.old) files.now.net.now files.now.stations.now files.now.root.now (S.faults shelf.old) (S.faults shelf.new)) }
+    ensures err { IfErr result (MissesWrapped (S.held shelf.old) files.now.net.now files.now.stations.now files.now.root.now
+        (S.faults shelf.old) (S.faults shelf.new)) }
     ensures kept { S.held shelf.new ≡ S.held shelf.old }
     ensures grows { (q : List ℕ) → S.faults shelf.old q ≤ S.faults shelf.new q }
 {

@@ -68,7 +68,8 @@ pub fn telling_text<'a, S: Shelf>(
     files: &NetFiles<'a>,
     telling: Telling,
 ) -> Result<Vec<u8>, Stop<'a>>
-    ensures { RunsOn S.held S.faults shelf.old shelf.new (telling_script (output_of telling) files.now.net.now files.now.stations.now files.now.root.now) result }
+    ensures { RunsOn S.held S.faults shelf.old shelf.new
+        (telling_script (output_of telling) files.now.net.now files.now.stations.now files.now.root.now) result }
 {
     match read_wrapped(alloc, shelf, files) {
         Ok(wrapped) => told_text(alloc, &wrapped, telling),

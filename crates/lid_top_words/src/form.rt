@@ -52,7 +52,8 @@ fn files_fit(files: &[&str], places: &[&str]) -> bool
 /// Whether the places are those of a form.
 #[tactic(auto, unfolding(crate::specs::Jobs::files_in))]
 fn has_places(given: &ArgMatches<'_>, places: &[&str]) -> bool
-    ensures { result ≡ (length (files_in (matches_in given.now)) == length places.now && files_fit (files_in (matches_in given.now)) (map (λ p. p.now) places.now)) }
+    ensures { result ≡ (length (files_in (matches_in given.now)) == length places.now
+        && files_fit (files_in (matches_in given.now)) (map (λ p. p.now) places.now)) }
 {
     match files(given) {
         Some(files) => files.len() == places.len() && files_fit(files, places),

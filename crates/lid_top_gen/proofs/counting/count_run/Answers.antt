@@ -1,4 +1,4 @@
-use Rattle.std.proofs.Common.{ℕ, ◌≤◌, List, length, sym, ap, subst, arith, ◌∙◌}
+use Rattle.std.proofs.Common.{◌≤◌, length, sym, ap, subst, arith, ◌∙◌}
 use Rattle.lid_system.specs.Streams.{output_row}
 use Rattle.lid_clock.specs.Lives.{sink, fired_after}
 use Rattle.lid_clock.proofs.FreeLives.{sinks_few}

@@ -1,4 +1,4 @@
-use Rattle.std.proofs.Common.{◌≡◌, ℕ, List, get_or, refl, sym, ◌∙◌, ap, subst}
+use Rattle.std.proofs.Common.{◌≡◌, List, get_or, refl, sym, ◌∙◌, ap, subst}
 use Rattle.lid_graph.specs.Ratios.{IsRatio}
 use Rattle.lid_cert.specs.declared.cert.Part.{Part}
 use Rattle.lid_cert.specs.Certificates.{part_at, no_part}

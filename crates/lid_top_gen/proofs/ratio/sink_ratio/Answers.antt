@@ -1,4 +1,4 @@
-use Rattle.std.proofs.Common.{◌≡◌, ap, arith}
+use Rattle.std.proofs.Common.{ap, arith}
 use Rattle.lid_graph.specs.declared.graph.Graph.{Graph}
 use Rattle.lid_stations.proofs.Edges.{node_count}
 use Rattle.lid_top_gen.proofs.ratio.sink_ratio.Goals as goal

@@ -1,4 +1,4 @@
-use Rattle.std.proofs.Common.{ℕ, ◌≡◌, ◌≤◌, List, length, sym, ap, subst, arith, ◌∙◌, IfOk}
+use Rattle.std.proofs.Common.{◌≤◌, length, sym, ap, subst, arith, IfOk}
 use Rattle.std.specs.List.{AllByRecursion}
 use Rattle.lid_shell_laws.specs.Setups.{IsInputRow}
 use Rattle.lid_gen.specs.Designs.{generated}

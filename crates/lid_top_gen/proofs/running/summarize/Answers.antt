@@ -1,4 +1,4 @@
-use Rattle.std.proofs.Common.{ℕ, ◌≡◌, ◌≤◌, List, length, sym, ap, subst, arith, ◌∙◌}
+use Rattle.std.proofs.Common.{length, sym, ap, subst, ◌∙◌}
 use Rattle.lid_gen.specs.Designs.{generated}
 use Rattle.lid_gen.specs.Runs.{generated_rows}
 use Rattle.lid_graph.specs.Ratios.{IsRatio}

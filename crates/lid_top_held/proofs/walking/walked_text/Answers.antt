@@ -1,8 +1,6 @@
 -- The schedule is read for as many actors as there are, and its walk ends the script.
 use Rattle.std.proofs.Common.{ℕ, List, subst}
-use Rattle.lid_design.specs.declared.Design.{Design}
-use Rattle.lid_stations.specs.declared.placement.Placement.{Placement}
-use Rattle.lid_stations.specs.Placements.{Links, links_of}
+use Rattle.lid_stations.specs.Placements.{links_of}
 use Rattle.lid_stations.specs.Stations.{actor_count}
 use Rattle.lid_top_script.specs.Causes.{Got, Misses}
 use Rattle.lid_top_script.specs.Outputs.{IsTextOf, walked}
