@@ -11,6 +11,7 @@ use Rattle.lid_system.specs.Streams.{token_at}
 use Rattle.lid_shell_nodes.specs.Nodes.{channels_from}
 use Rattle.lid_shell_nodes.specs.Wiring.{ports_from}
 use Rattle.lid_stations.specs.declared.placement.Placement.{Placement}
+use Rattle.lid_stations.specs.Placed.{Placing, links_in}
 use Rattle.lid_stations.specs.Placements.{links_of, Fits}
 use Rattle.lid_stations.specs.Stations.{start_count}
 use Rattle.lid_shell_laws.specs.Runs.{filled_by, token_of}
@@ -38,13 +39,13 @@ module _ (r : ActorsGoByRules) (s : System) (p : Placement) (well : IsWellFormed
       ∙ sym (length-map (channels_from s.channels v) (λ c. c.ports))
 
 -- the tokens that a node puts are those of the stations that it fills
-pub tokens_are : (r : ActorsGoByRules) (m : Setup) (s : System) (p : Placement) (row : List Bool) (v : ℕ) (stations tokens : List ℕ) → BeginsWith m s p row → v < length s.nodes → stations ≡ filled_by (links_of s) p v → AreTokensOf s v row tokens
+pub tokens_are : (r : ActorsGoByRules) (m : Setup) (q : Placing) (row : List Bool) (v : ℕ) (stations tokens : List ℕ) → BeginsWith m q row → v < length q.system.nodes → stations ≡ filled_by (links_in q) q.placement v → AreTokensOf q.system v row tokens
     → tokens ≡ map (λ station. (plan m).token station 0) stations
-tokens_are r m s p row v stations tokens of node listed are =
+tokens_are r m q row v stations tokens of node listed are =
     let own : AreTokensOf m.system v row tokens = subst (λ (x : System). AreTokensOf x v row tokens) (sym of.system) are in
     own m.input m.table of.rules.table of.first
     ∙ sym (r.filled m.system m.placement m.table v 0 of.rules.system of.rules.fits (subst (λ (x : System). v < length x.nodes) (sym of.system) node))
-    ∙ ap (map (λ station. (plan m).token station 0)) (outs_are m s p of.system of.placement v ∙ sym listed)
+    ∙ ap (map (λ station. (plan m).token station 0)) (outs_are m q.system q.placement of.system of.placement v ∙ sym listed)
 
 -- a node more has written its tokens
 pub next_node : (m : Setup) (v : ℕ) (stations : List ℕ) (old new : List (Option ℕ)) → stations ≡ outs_of (plan m) v → AreWritten (λ station. (plan m).token station 0) stations (length stations) old new → HasFirsts m v old → HasFirsts m (v + 1) new
@@ -107,10 +108,10 @@ none_start m n none many =
     ∙ ap (λ x. Some x) (get_or-replicate {A = Option ℕ} n station None None (omega arith) ∙ sym (no_first m station (λ one. omega arith))))
 
 -- all stations have got their tokens in a run that begins with a row
-pub all_begin : (r : ActorsGoByRules) (m : Setup) (s : System) (p : Placement) (row : List Bool) (n : ℕ) (old new : List (Option ℕ)) → Fits s p → BeginsWith m s p row → n ≡ length p.caps → old ≡ replicate {A = Option ℕ} n None → length new ≡ length old
-    → (HasFirsts m 0 old → HasFirsts m (length s.nodes - 1) new) → new ≡ first_tokens (plan m)
-all_begin r m s p row n old new fits of caps none same goes =
-    let all : n ≡ stations_of (plan m) = caps ∙ fits.rules.caps ∙ sym (stations_are m s p of.system of.placement) in
+pub all_begin : (r : ActorsGoByRules) (m : Setup) (q : Placing) (row : List Bool) (n : ℕ) (old new : List (Option ℕ)) → Fits q.system q.placement → BeginsWith m q row → n ≡ length q.placement.caps → old ≡ replicate {A = Option ℕ} n None → length new ≡ length old
+    → (HasFirsts m 0 old → HasFirsts m (length q.system.nodes - 1) new) → new ≡ first_tokens (plan m)
+all_begin r m q row n old new fits of caps none same goes =
+    let all : n ≡ stations_of (plan m) = caps ∙ fits.rules.caps ∙ sym (stations_are m q.system q.placement of.system of.placement) in
     let many : length new ≡ stations_of (plan m) = same ∙ ap length none ∙ length-replicate {A = Option ℕ} n None ∙ all in
     let first : HasFirsts m 0 old = subst (λ (xs : List (Option ℕ)). HasFirsts m 0 xs) (sym none) (none_yet m n all) in
     all_written r m new of.rules (slice_get_within m.input 0 row of.first) many

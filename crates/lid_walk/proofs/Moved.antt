@@ -4,6 +4,7 @@ use Rattle.std.specs.Prelude.{Some, slice_get}
 use Rattle.lid_system.specs.declared.System.{System}
 use Rattle.lid_system.specs.Systems.{IsWellFormed}
 use Rattle.lid_stations.specs.declared.placement.Placement.{Placement}
+use Rattle.lid_stations.specs.Placed.{Placing}
 use Rattle.lid_stations.specs.Placements.{links_of, station_count, Fits}
 use Rattle.lid_stations.specs.Stations.{actor_count, mover}
 use Rattle.lid_stations.proofs.Spots.{mover_below}
@@ -50,10 +51,12 @@ module _ (r : ActorsGoByRules) (s : System) (p : Placement) (well : IsWellFormed
       }
 
 -- it is an actor of each setup
-pub is_mover : (s : System) (p : Placement) (rows : List (List Bool)) (v station next count : ℕ) (a : Actor) → IsOne s p v station → next ≡ station + 1 → count ≡ length rows
+pub is_mover : (q : Placing) (rows : List (List Bool)) (v station next count : ℕ) (a : Actor) → IsOne q.system q.placement v station → next ≡ station + 1 → count ≡ length rows
     → ((m : Setup) (w : ℕ) → IsSetup m → length m.system.nodes ≤ w → w < actors_of (plan m) → length m.input ≡ count → ins_of (plan m) w ≡ station ∷ [] → outs_of (plan m) w ≡ next ∷ [] → IsActor m w (begun w) a)
-    → IsUnfiredActor s p rows v a
-is_mover s p rows v station next count a one after many is m of =
+    → IsUnfiredActor q rows v a
+is_mover q rows v station next count a one after many is m of =
+    let s = q.system in
+    let p = q.placement in
     let nodes : length m.system.nodes ≡ length s.nodes = nodes_are m s p of.system of.placement in
     let actors : actors_of (plan m) ≡ actor_count (links_of s) p = actors_are m s p of.system of.placement in
     let past : length s.nodes ≤ v = one.past in

@@ -10,6 +10,7 @@ use Rattle.lid_shell_nodes.specs.Nodes.{tokens_from}
 use Rattle.lid_station.specs.declared.looks.Side.{Side}
 use Rattle.lid_station.specs.declared.looks.Side.TheVariants.{Drain, Fill}
 use Rattle.lid_stations.specs.declared.placement.Placement.{Placement}
+use Rattle.lid_stations.specs.Placed.{Placing}
 use Rattle.lid_stations.specs.Placements.{Links}
 use Rattle.lid_stations.specs.Stations.{filler, drainer}
 use Rattle.lid_shell_laws.specs.Runs.{drained_by, filled_by}
@@ -43,13 +44,13 @@ end_of Drain d v first last = if d.to == v then last ∷ [] else []
 end_of Fill d v first last = if d.from == v then first ∷ [] else []
 
 -- actor v of each setup of a system, its stations and its rows, which has not fired
-abbrev pub IsUnfiredActor : System → Placement → List (List Bool) → ℕ → Actor → Type 0
-IsUnfiredActor s p rows v a = (m : Setup) → IsSetupOf m s p rows → IsActor m v (begun v) a
+abbrev pub IsUnfiredActor : Placing → List (List Bool) → ℕ → Actor → Type 0
+IsUnfiredActor q rows v a = (m : Setup) → IsSetupOf m q.system q.placement rows → IsActor m v (begun v) a
 
 -- the first actors, so many
-pub record AreFirstActors (s : System) (p : Placement) (rows : List (List Bool)) (many : ℕ) (actors : List Actor) : Type 0 where
+pub record AreFirstActors (q : Placing) (rows : List (List Bool)) (many : ℕ) (actors : List Actor) : Type 0 where
   pub many_are : length actors ≡ many
-  pub each : (v : ℕ) (a : Actor) → slice_get actors v ≡ Some a → IsUnfiredActor s p rows v a
+  pub each : (v : ℕ) (a : Actor) → slice_get actors v ≡ Some a → IsUnfiredActor q rows v a
 
 -- the tokens that a node puts in the first row, which is this
 abbrev pub AreTokensOf : System → ℕ → List Bool → List ℕ → Type 0
@@ -66,8 +67,8 @@ pub record HasFirsts (m : Setup) (v : ℕ) (firsts : List (Option ℕ)) : Type 0
   pub later : (station : ℕ) → station < stations_of (plan m) → v ≤ filler_of (plan m) station → slice_get firsts station ≡ Some None
 
 -- a setup of a system and its stations, in which this is the first row
-pub record BeginsWith (m : Setup) (s : System) (p : Placement) (row : List Bool) : Type 0 where
+pub record BeginsWith (m : Setup) (q : Placing) (row : List Bool) : Type 0 where
   pub rules : IsSetup m
-  pub system : m.system ≡ s
-  pub placement : m.placement ≡ p
+  pub system : m.system ≡ q.system
+  pub placement : m.placement ≡ q.placement
   pub first : slice_get m.input 0 ≡ Some row

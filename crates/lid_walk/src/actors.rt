@@ -2,8 +2,6 @@
 
 ghost use Rattle.std.specs.Prelude.{◌≤◌, length, IfOk};
 ghost use Rattle.std.specs.List.{AllByRecursion};
-ghost use Rattle.lid_system.specs.Systems.{IsWellFormed};
-ghost use Rattle.lid_stations.specs.Placements.{Fits};
 ghost use Rattle.lid_shell_laws.specs.Setups.{Setup, IsInputRow};
 ghost use Rattle.lid_walk_machine.specs.Machine.{begun};
 ghost use Rattle.lid_walk.specs.Setups.{IsSetupOf};
@@ -12,8 +10,7 @@ ghost use Rattle.lid_walk.specs.Actors.{AreActors};
 use crate::movers::push_movers;
 use crate::nodes::push_nodes;
 use lid_shell::Actor;
-use lid_stations::Placement;
-use lid_system::System;
+use lid_stations::Placed;
 use lid_texts::Rows;
 use std::alloc::{AllocError, Global};
 
@@ -25,18 +22,16 @@ use std::alloc::{AllocError, Global};
 /// Memory is wanting.
 pub fn all_actors<'r>(
     alloc: Global,
-    system: &System,
-    placement: &Placement,
+    placed: &Placed<'_>,
     rows: &'r Rows,
 ) -> Result<Vec<Actor<'r>>, AllocError>
-    requires system { IsWellFormed system.now }
-    requires fits { Fits system.now placement.now }
     requires few { length rows.now.bits ≤ 1000000 }
-    requires wide { AllByRecursion (IsInputRow system.now) rows.now.bits }
-    ensures { IfOk result (λ actors. (m : Setup) → IsSetupOf m system.now placement.now rows.now.bits → AreActors m begun actors.items) }
+    requires wide { AllByRecursion (IsInputRow placed.now.system) rows.now.bits }
+    ensures { IfOk result (λ actors. (m : Setup) → IsSetupOf m placed.now.system placed.now.placement rows.now.bits
+        → AreActors m begun actors.items) }
 {
     let mut actors = Vec::new(alloc);
-    push_nodes(alloc, system, placement, rows, &mut actors)?;
-    push_movers(alloc, system, placement, rows, &mut actors)?;
+    push_nodes(alloc, placed, rows, &mut actors)?;
+    push_movers(alloc, placed, rows, &mut actors)?;
     Ok(actors)
 }

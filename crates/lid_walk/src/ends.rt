@@ -1,13 +1,12 @@
 //! The stations at which a node takes tokens, and those at which it puts them.
 
 ghost use Rattle.std.specs.Prelude.{◌≡◌, ◌<◌, ◌++◌, [], ◌∷◌, length, if◌then◌else◌, IfOk, OnOk};
-ghost use Rattle.lid_system.specs.Systems.{IsWellFormed};
-ghost use Rattle.lid_stations.specs.Placements.{links_of, Fits};
+ghost use Rattle.lid_stations.specs.Placed.{links_in};
 ghost use Rattle.lid_walk.specs.Inside.{ends_by, end_of};
 
 use lid_station::Side;
-use lid_stations::Placement;
-use lid_system::{Channel, System};
+use lid_stations::Placed;
+use lid_system::Channel;
 use std::alloc::{AllocError, Global};
 
 /// Appends a station, where it passes.
@@ -41,21 +40,18 @@ fn push_end(
 /// lead to it, and those that it fills the first ones of the channels that come from it.
 pub(crate) fn stations_of(
     alloc: Global,
-    system: &System,
-    placement: &Placement,
+    placed: &Placed<'_>,
     node: u32,
     side: Side,
 ) -> Result<Vec<u32>, AllocError>
-    requires system { IsWellFormed system.now }
-    requires fits { Fits system.now placement.now }
-    requires node { node < length system.now.nodes }
-    ensures { IfOk result (λ stations. stations.items ≡ ends_by side (links_of system.now) placement.now node) }
+    requires node { node < length placed.now.system.nodes }
+    ensures { IfOk result (λ stations. stations.items ≡ ends_by side (links_in placed.now) placed.now.placement node) }
 {
     let mut stations = Vec::new(alloc);
     let mut first = 0u32;
-    for c in 0..placement.relays.len() {
-        let last = first + placement.relays.as_slice()[c];
-        let channel = &system.channels.as_slice()[c];
+    for c in 0..placed.placement.relays.len() {
+        let last = first + placed.placement.relays.as_slice()[c];
+        let channel = &placed.system.channels.as_slice()[c];
         push_end(&mut stations, side, channel, node, first, last)?;
         first = last + 1;
     }

@@ -2,8 +2,7 @@
 
 ghost use Rattle.std.specs.Prelude.{◌≡◌, ◌≤◌, ◌<◌, ◌+◌, ◌-◌, ◌^◌, ℕ, length, map, replicate, None, IfOk, IfSome, OnOk};
 ghost use Rattle.std.specs.List.{All, AllByRecursion};
-ghost use Rattle.lid_system.specs.Systems.{IsWellFormed};
-ghost use Rattle.lid_stations.specs.Placements.{station_count, Fits};
+ghost use Rattle.lid_stations.specs.Placements.{station_count};
 ghost use Rattle.lid_walk_machine.specs.Setups.{plan};
 ghost use Rattle.lid_shell_laws.specs.Setups.{Setup, IsInputRow};
 ghost use Rattle.lid_walk.specs.Setups.{IsSetupOf};
@@ -14,8 +13,8 @@ use crate::ends::stations_of;
 use crate::tokens::node_tokens;
 use lid_shell::actors_go_by_rules;
 use lid_station::Side;
-use lid_stations::Placement;
-use lid_system::{System, systems_have_one_table};
+use lid_stations::Placed;
+use lid_system::systems_have_one_table;
 use lid_texts::Rows;
 use std::alloc::{AllocError, Global};
 
@@ -34,24 +33,21 @@ fn write_tokens(stations: &[u32], tokens: &[u32], firsts: &mut [Option<u32>])
 /// Writes the start tokens of the stations that a node fills, which is not the sink, in a run that begins with a row.
 fn write_node(
     alloc: Global,
-    system: &System,
-    placement: &Placement,
+    placed: &Placed<'_>,
     node: u32,
     row: &[bool],
     firsts: &mut [Option<u32>],
 ) -> Result<(), AllocError>
-    requires system { IsWellFormed system.now }
-    requires fits { Fits system.now placement.now }
-    requires node { node + 1 < length system.now.nodes }
-    requires row { IsInputRow system.now row.now }
-    requires many { length firsts.old ≡ station_count placement.now.relays }
+    requires node { node + 1 < length placed.now.system.nodes }
+    requires row { IsInputRow placed.now.system row.now }
+    requires many { length firsts.old ≡ station_count placed.now.placement.relays }
     ensures many { length firsts.new ≡ length firsts.old }
-    ensures firsts { OnOk result ((m : Setup) → BeginsWith m system.now placement.now row.now → HasFirsts m node firsts.old → HasFirsts m (node + 1) firsts.new) }
+    ensures firsts { OnOk result ((m : Setup) → BeginsWith m placed.now row.now → HasFirsts m node firsts.old → HasFirsts m (node + 1) firsts.new) }
 {
     actors_go_by_rules();
-    let stations = stations_of(alloc, system, placement, node, Side::Fill)?;
+    let stations = stations_of(alloc, placed, node, Side::Fill)?;
     let listed = stations.as_slice();
-    let tokens = node_tokens(alloc, system, node, row, listed.len())?;
+    let tokens = node_tokens(alloc, placed.system, node, row, listed.len())?;
     write_tokens(listed, tokens.as_slice(), firsts);
     Ok(())
 }
@@ -59,20 +55,18 @@ fn write_node(
 /// Writes the start tokens of all stations, in a run that begins with a row.
 fn write_nodes(
     alloc: Global,
-    system: &System,
-    placement: &Placement,
+    placed: &Placed<'_>,
     row: &[bool],
     firsts: &mut [Option<u32>],
 ) -> Result<(), AllocError>
-    requires system { IsWellFormed system.now }
-    requires fits { Fits system.now placement.now }
-    requires row { IsInputRow system.now row.now }
-    requires many { length firsts.old ≡ station_count placement.now.relays }
+    requires row { IsInputRow placed.now.system row.now }
+    requires many { length firsts.old ≡ station_count placed.now.placement.relays }
     ensures many { length firsts.new ≡ length firsts.old }
-    ensures firsts { OnOk result ((m : Setup) → BeginsWith m system.now placement.now row.now → HasFirsts m 0 firsts.old → HasFirsts m (length system.now.nodes - 1) firsts.new) }
+    ensures firsts { OnOk result ((m : Setup) → BeginsWith m placed.now row.now → HasFirsts m 0 firsts.old
+        → HasFirsts m (length placed.now.system.nodes - 1) firsts.new) }
 {
-    for node in 0..system.nodes.len() as u32 - 1 {
-        write_node(alloc, system, placement, node, row, firsts)?;
+    for node in 0..placed.system.nodes.len() as u32 - 1 {
+        write_node(alloc, placed, node, row, firsts)?;
     }
     Ok(())
 }
@@ -87,37 +81,32 @@ fn no_tokens(alloc: Global, many: usize) -> Result<Vec<Option<u32>>, AllocError>
 /// The tokens with which the stations of a run start that begins with a row.
 fn tokens_of(
     alloc: Global,
-    system: &System,
-    placement: &Placement,
+    placed: &Placed<'_>,
     row: &[bool],
 ) -> Result<Vec<Option<u32>>, AllocError>
-    requires system { IsWellFormed system.now }
-    requires fits { Fits system.now placement.now }
-    requires row { IsInputRow system.now row.now }
-    ensures { IfOk result (λ firsts. (m : Setup) → BeginsWith m system.now placement.now row.now → firsts.items ≡ first_tokens (plan m)) }
+    requires row { IsInputRow placed.now.system row.now }
+    ensures { IfOk result (λ firsts. (m : Setup) → BeginsWith m placed.now row.now → firsts.items ≡ first_tokens (plan m)) }
 {
     actors_go_by_rules();
-    let mut firsts = no_tokens(alloc, placement.caps.len())?;
-    write_nodes(alloc, system, placement, row, firsts.as_mut_slice())?;
+    let mut firsts = no_tokens(alloc, placed.placement.caps.len())?;
+    write_nodes(alloc, placed, row, firsts.as_mut_slice())?;
     Ok(firsts)
 }
 
 /// The same of a run over rows.
 fn tokens_at_start(
     alloc: Global,
-    system: &System,
-    placement: &Placement,
+    placed: &Placed<'_>,
     rows: &Rows,
 ) -> Result<Vec<Option<u32>>, AllocError>
-    requires system { IsWellFormed system.now }
-    requires fits { Fits system.now placement.now }
-    requires wide { AllByRecursion (IsInputRow system.now) rows.now.bits }
-    ensures { IfOk result (λ firsts. (m : Setup) → IsSetupOf m system.now placement.now rows.now.bits → firsts.items ≡ first_tokens (plan m)) }
+    requires wide { AllByRecursion (IsInputRow placed.now.system) rows.now.bits }
+    ensures { IfOk result (λ firsts. (m : Setup) → IsSetupOf m placed.now.system placed.now.placement rows.now.bits
+        → firsts.items ≡ first_tokens (plan m)) }
 {
     let Some(row) = rows.bits.as_slice().first() else {
-        return no_tokens(alloc, placement.caps.len());
+        return no_tokens(alloc, placed.placement.caps.len());
     };
-    tokens_of(alloc, system, placement, row.as_slice())
+    tokens_of(alloc, placed, row.as_slice())
 }
 
 /// The tokens with which the stations of a run start, in order: where there are rows, a station that a node fills
@@ -128,18 +117,17 @@ fn tokens_at_start(
 /// Memory is wanting.
 pub fn first_tokens(
     alloc: Global,
-    system: &System,
-    placement: &Placement,
+    placed: &Placed<'_>,
     rows: &Rows,
 ) -> Result<Vec<Option<u32>>, AllocError>
-    requires system { IsWellFormed system.now }
-    requires fits { Fits system.now placement.now }
     requires few { length rows.now.bits ≤ 1000000 }
-    requires wide { AllByRecursion (IsInputRow system.now) rows.now.bits }
-    ensures are { IfOk result (λ firsts. (m : Setup) → IsSetupOf m system.now placement.now rows.now.bits → firsts.items ≡ first_tokens (plan m)) }
-    ensures many { IfOk result (λ firsts. length firsts.items ≡ length placement.now.caps) }
+    requires wide { AllByRecursion (IsInputRow placed.now.system) rows.now.bits }
+    ensures are { IfOk result (λ firsts. (m : Setup) → IsSetupOf m placed.now.system placed.now.placement rows.now.bits
+        → firsts.items ≡ first_tokens (plan m)) }
+    ensures many { IfOk result (λ firsts. length firsts.items ≡ length placed.now.placement.caps) }
     ensures small { IfOk result (λ firsts. All (λ first. IfSome first (λ token. token < 2 ^ 31)) firsts.items) }
 {
     systems_have_one_table();
-    tokens_at_start(alloc, system, placement, rows)
+    let _ = &placed.system;
+    tokens_at_start(alloc, placed, rows)
 }

@@ -19,7 +19,7 @@ use crate::starting::board_of;
 use lid_base::{Answer, Items};
 use lid_shell::{Actor, TurnEnd};
 use lid_station::PlainBoard;
-use lid_stations::Placement;
+use lid_stations::{Placed, Placement};
 use lid_system::{System, systems_have_one_table};
 use lid_texts::Rows;
 use std::alloc::{AllocError, Global};
@@ -58,8 +58,9 @@ impl<'r> Walk<'r> {
         ensures { IfOk result (λ w. (m : Setup) → IsSetupOf m system.now placement.now rows.now.bits → Walks m begun w) }
     {
         systems_have_one_table();
-        let board = board_of(alloc, system, placement, rows)?;
-        let actors = all_actors(alloc, system, placement, rows)?;
+        let placed = Placed { system, placement };
+        let board = board_of(alloc, &placed, rows)?;
+        let actors = all_actors(alloc, &placed, rows)?;
         Ok(Walk::adopt(board, actors))
     }
 

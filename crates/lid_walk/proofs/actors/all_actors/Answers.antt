@@ -3,4 +3,4 @@ use Rattle.lid_walk.proofs.Pushed.{all_there}
 use Rattle.lid_walk.proofs.actors.all_actors.Goals as goal
 
 pub returns : goal.returns
-returns c = λ m of. all_there c.args.system.now c.args.placement.now c.args.rows.now.bits m c.push_movers.new.actors.items of c.in_ok-push_movers.ensures
+returns c = λ m of. all_there c.args.placed.now c.args.rows.now.bits m c.push_movers.new.actors.items of c.in_ok-push_movers.ensures

@@ -3,4 +3,4 @@ use Rattle.lid_walk.proofs.Pushed.{one_more}
 use Rattle.lid_walk.proofs.nodes.push_nodes.Goals as goal
 
 pub loop-node-preserved : goal.loop-node-preserved
-loop-node-preserved c = one_more c.args.system.now c.args.placement.now c.args.rows.now.bits c.loop-node.node c.loop-node.actors.items c.push.new.self.items c.in_ok-node_of.field-0 c.loop-node.invariant c.in_ok-push.ensures.items c.in_ok-node_of.ensures
+loop-node-preserved c = one_more c.args.placed.now c.args.rows.now.bits c.loop-node.node c.loop-node.actors.items c.push.new.self.items c.in_ok-node_of.field-0 c.loop-node.invariant c.in_ok-push.ensures.items c.in_ok-node_of.ensures

@@ -2,4 +2,4 @@ use Rattle.lid_walk.specs.Inside.{AreFirstActors}
 use Rattle.lid_walk.proofs.nodes.push_nodes.Given as goal
 
 abbrev pub invariant-loop-node : goal.invariant-loop-node
-invariant-loop-node l = AreFirstActors l.system l.placement l.rows.bits l.node l.actors.items
+invariant-loop-node l = AreFirstActors l.placed l.rows.bits l.node l.actors.items
