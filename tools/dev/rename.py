@@ -54,6 +54,18 @@ def said(text: str) -> list[bool]:
     return lines
 
 
+def in_code(code: str, name: str, new: str) -> str:
+    """A line without its comment; labels of clauses and fields of records keep their names."""
+
+    def word(found):
+        before, after = code[: found.start()], code[found.end() :]
+        is_label = re.fullmatch(r"\s*(?:pub )?(?:requires|ensures|ghost|invariant)\s+", before) is not None
+        is_field = re.match(r" = ", after) is not None and re.search(r"(?:^\s+|[{;]\s*)$", before) is not None
+        return name if is_label or is_field else new
+
+    return re.sub(token(name), word, code)
+
+
 def renamed(text: str, modules: set[str], name: str, new: str, is_home: bool, is_code: bool) -> str:
     words = imported(text, modules, name)
     for found in AS.finditer(text):
@@ -71,7 +83,7 @@ def renamed(text: str, modules: set[str], name: str, new: str, is_home: bool, is
             if name[0].isupper():
                 comment = re.sub(token(name), new, comment)
             comment = re.sub(rf"(?<=`){re.escape(name)}(?=`)", new, comment)
-            lines.append((re.sub(token(name), new, code) if is_said else code) + dash + comment)
+            lines.append((in_code(code, name, new) if is_said else code) + dash + comment)
         return "\n".join(lines)
     if words:
 

@@ -167,6 +167,3 @@ module _ (p q : Program) (last : List ℕ)
         earlier = subst (ReadEarlier known) (sym same_show) stands.1;
         all = λ k among. subst (λ (cs : List FlatCover). Among k (known_after known cs)) (sym same_show) (stands.2 k among);
       }
-
-pub serves_itself : (p : Program) → ServesFor p p
-serves_itself p f known row earlier = record { row = row; earlier = earlier; all = λ k among. among }
