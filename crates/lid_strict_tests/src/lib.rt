@@ -1,0 +1,5 @@
+//! Tests of `lid_strict` and its rooms.
+#![tactic(auto)]
+
+#[cfg(test)]
+mod widths;
