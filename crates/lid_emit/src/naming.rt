@@ -5,8 +5,6 @@ ghost use Rattle.lid_emit_cells.specs.Matches.{AreAllSmall};
 ghost use Rattle.lid_design.specs.Columns.{root_inputs, root_outputs};
 ghost use Rattle.lid_emit.specs.Steps.{AreCells, IsCircuitLaidOut};
 ghost use Rattle.lid_net_law.specs.Agreement.{IsSystemOf};
-ghost use Rattle.lid_stations.specs.Placements.{Fits};
-ghost use Rattle.lid_system.specs.Systems.{IsWellFormed};
 
 use crate::prefix::free_prefix;
 use lid_check::Checked;
@@ -14,24 +12,20 @@ use lid_design::Cell;
 use lid_emit_cells::{All, Naming, make_cells};
 use lid_emit_layout::lay_out;
 use lid_emit_shells::make_shells;
-use lid_stations::Placement;
-use lid_system::System;
+use lid_stations::Placed;
 use std::alloc::{AllocError, Global};
 
 /// The stations, actors, shells and outside of a wrapped system.
 pub(crate) fn lay_out_all(
     alloc: Global,
     checked: &Checked,
-    system: &System,
-    placement: &Placement,
+    placed: &Placed<'_>,
 ) -> Result<All, AllocError>
-    requires of { IsSystemOf checked.now system.now }
-    requires system { IsWellFormed system.now }
-    requires fits { Fits system.now placement.now }
-    ensures { IfOk result (IsCircuitLaidOut checked.now system.now placement.now) }
+    requires { IsSystemOf checked.now placed.now.system }
+    ensures { IfOk result (IsCircuitLaidOut checked.now placed.now.system placed.now.placement) }
 {
-    let shells = make_shells(alloc, checked, system, placement)?;
-    lay_out(alloc, system, placement, shells)
+    let shells = make_shells(alloc, checked, placed.system, placed.placement)?;
+    lay_out(alloc, placed.system, placed.placement, shells)
 }
 
 /// The cells of what was laid out. Wires that are no ports have names with a prefix with which no name of

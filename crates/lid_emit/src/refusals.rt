@@ -4,15 +4,13 @@ ghost use Rattle.std.specs.Prelude.{◌≡◌, ◌⊎◌, None, Some, OnOk, IfEr
 ghost use Rattle.lid_emit_meaning.specs.declared.fault.EmitFault.TheVariants.{Memory};
 ghost use Rattle.lid_emit_meaning.specs.Emitted.{fault_of, emit_fault};
 ghost use Rattle.lid_emit_meaning.specs.Sizes.{size};
-ghost use Rattle.lid_stations.specs.Placements.{links_of, Fits};
-ghost use Rattle.lid_system.specs.Systems.{IsWellFormed};
+ghost use Rattle.lid_stations.specs.Placed.{links_in};
 
 use crate::size::emitted_size;
 use crate::taken::find_taken;
 use lid_check::Checked;
 use lid_emit_meaning::EmitFault;
-use lid_stations::Placement;
-use lid_system::System;
+use lid_stations::Placed;
 use std::alloc::Global;
 
 const GREATEST_SIZE: u64 = 16_384;
@@ -21,37 +19,23 @@ const GREATEST_SIZE: u64 = 16_384;
 ///
 /// # Errors
 /// The fault. `Memory` where there is no memory.
-pub(crate) fn refuse(
-    alloc: Global,
-    checked: &Checked,
-    system: &System,
-    placement: &Placement,
-) -> Result<(), EmitFault>
-    requires system { IsWellFormed system.now }
-    requires fits { Fits system.now placement.now }
-    ensures ok { OnOk result (emit_fault checked.now (links_of system.now) placement.now ≡ None) }
-    ensures err { IfErr result (λ fault. (emit_fault checked.now (links_of system.now) placement.now ≡ Some fault) ⊎ (fault ≡ Memory)) }
+pub(crate) fn refuse(alloc: Global, checked: &Checked, placed: &Placed<'_>) -> Result<(), EmitFault>
+    ensures ok { OnOk result (emit_fault checked.now (links_in placed.now) placed.now.placement ≡ None) }
+    ensures err { IfErr result (λ fault. (emit_fault checked.now (links_in placed.now) placed.now.placement ≡ Some fault) ⊎ (fault ≡ Memory)) }
 {
     match find_taken(alloc, checked) {
         Ok(Some(name)) => Err(EmitFault::NameTaken { name }),
-        Ok(None) => refuse_size(alloc, checked, system, placement),
+        Ok(None) => refuse_size(alloc, checked, placed),
         Err(_) => Err(EmitFault::Memory),
     }
 }
 
 /// Refuses a size over 16,384.
-fn refuse_size(
-    alloc: Global,
-    checked: &Checked,
-    system: &System,
-    placement: &Placement,
-) -> Result<(), EmitFault>
-    requires system { IsWellFormed system.now }
-    requires fits { Fits system.now placement.now }
-    ensures ok { OnOk result (fault_of None (size checked.now (links_of system.now) placement.now) ≡ None) }
-    ensures err { IfErr result (λ fault. (fault_of None (size checked.now (links_of system.now) placement.now) ≡ Some fault) ⊎ (fault ≡ Memory)) }
+fn refuse_size(alloc: Global, checked: &Checked, placed: &Placed<'_>) -> Result<(), EmitFault>
+    ensures ok { OnOk result (fault_of None (size checked.now (links_in placed.now) placed.now.placement) ≡ None) }
+    ensures err { IfErr result (λ fault. (fault_of None (size checked.now (links_in placed.now) placed.now.placement) ≡ Some fault) ⊎ (fault ≡ Memory)) }
 {
-    match emitted_size(alloc, checked, system, placement) {
+    match emitted_size(alloc, checked, placed) {
         Ok(count) => judge_size(count),
         Err(_) => Err(EmitFault::Memory),
     }

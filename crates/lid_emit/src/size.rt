@@ -2,8 +2,7 @@
 
 ghost use Rattle.std.specs.Prelude.{◌≡◌, min, sum_by, IfOk, OnOk};
 ghost use Rattle.lid_check_hierarchy.specs.Surveys.{AreKnown};
-ghost use Rattle.lid_stations.specs.Placements.{links_of, Fits};
-ghost use Rattle.lid_system.specs.Systems.{IsWellFormed};
+ghost use Rattle.lid_stations.specs.Placed.{links_in};
 ghost use Rattle.lid_emit_meaning.specs.Sizes.{name_size, ports_size, pearls_size, size};
 
 use crate::pearls::cells_of_pearls;
@@ -11,8 +10,7 @@ use crate::stations::stations_size;
 use lid_base::Name;
 use lid_check::Checked;
 use lid_check_hierarchy::{Survey, SurveyFault, find_uses, survey_models};
-use lid_stations::Placement;
-use lid_system::System;
+use lid_stations::Placed;
 use std::alloc::{AllocError, Global};
 
 /// The size of the wrapped design of a system and its stations.
@@ -23,16 +21,13 @@ use std::alloc::{AllocError, Global};
 pub fn emitted_size(
     alloc: Global,
     checked: &Checked,
-    system: &System,
-    placement: &Placement,
+    placed: &Placed<'_>,
 ) -> Result<u64, AllocError>
-    requires system { IsWellFormed system.now }
-    requires fits { Fits system.now placement.now }
-    ensures { IfOk result (λ count. count ≡ size checked.now (links_of system.now) placement.now) }
+    ensures { IfOk result (λ count. count ≡ size checked.now (links_in placed.now) placed.now.placement) }
 {
     let pearls = pearls_size(alloc, checked)?;
     let size = ports_size(checked)
-        .saturating_add(stations_size(system, placement))
+        .saturating_add(stations_size(placed))
         .saturating_add(pearls);
     if size == u64::MAX {
         return Err(AllocError);

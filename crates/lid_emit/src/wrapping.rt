@@ -4,6 +4,7 @@ ghost use Rattle.std.specs.Prelude.{◌≡◌, ◌⊎◌, ◌≤◌, Some, None,
 ghost use Rattle.lid_emit_meaning.specs.declared.fault.EmitFault.TheVariants.{Memory};
 ghost use Rattle.lid_emit_meaning.specs.Emitted.{CanBeEmitted, emit_fault, IsEmitted};
 ghost use Rattle.lid_emit_meaning.specs.Sizes.{size};
+ghost use Rattle.lid_stations.specs.Placed.{links_in};
 ghost use Rattle.lid_stations.specs.Placements.{links_of};
 ghost use Rattle.lid_emit_meaning.specs.Ports.{taken_name};
 
@@ -17,7 +18,7 @@ use lid_emit_laws::{
 };
 use lid_emit_meaning::EmitFault;
 use lid_emit_names::named_designs_are_accepted;
-use lid_stations::Placement;
+use lid_stations::{Placed, Placement};
 use lid_system::System;
 use std::alloc::{AllocError, Global};
 
@@ -38,29 +39,25 @@ pub fn emit(
         × IsEmitted checked.now (links_of system.now) placement.now e) }
     ensures err { IfErr result (λ fault. (emit_fault checked.now (links_of system.now) placement.now ≡ Some fault) ⊎ (fault ≡ Memory)) }
 {
-    if let Err(fault) = refuse(alloc, checked, system, placement) {
+    let placed = Placed { system, placement };
+    if let Err(fault) = refuse(alloc, checked, &placed) {
         return Err(fault);
     }
-    match wrap(alloc, checked, system, placement) {
+    match wrap(alloc, checked, &placed) {
         Ok(design) => Ok(design),
         Err(_) => Err(EmitFault::Memory),
     }
 }
 
 /// The wrapped design, where no name is taken and the size is not too big.
-fn wrap(
-    alloc: Global,
-    checked: &Checked,
-    system: &System,
-    placement: &Placement,
-) -> Result<Design, AllocError>
-    requires can { CanBeEmitted checked.now system.now placement.now }
+fn wrap(alloc: Global, checked: &Checked, placed: &Placed<'_>) -> Result<Design, AllocError>
+    requires can { CanBeEmitted checked.now placed.now.system placed.now.placement }
     requires free { taken_name checked.now ≡ None }
-    requires small { size checked.now (links_of system.now) placement.now ≤ 16384 }
-    ensures { IfOk result (IsEmitted checked.now (links_of system.now) placement.now) }
+    requires small { size checked.now (links_in placed.now) placed.now.placement ≤ 16384 }
+    ensures { IfOk result (IsEmitted checked.now (links_in placed.now) placed.now.placement) }
 {
     let _ = checked.design();
-    let all = lay_out_all(alloc, checked, system, placement)?;
+    let all = lay_out_all(alloc, checked, placed)?;
     let cells = name_cells(alloc, checked, &all)?;
     let model = make_model(alloc, checked, cells)?;
     named_designs_are_accepted();

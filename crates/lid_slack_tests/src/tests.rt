@@ -1,18 +1,16 @@
 //! The slack of the channels of netlists, with stations as texts.
 
 ghost use Rattle.std.specs.Prelude.{◌<◌, length};
-ghost use Rattle.lid_system.specs.Systems.{IsWellFormed};
 ghost use Rattle.lid_slack.specs.Told.{IsCertified};
-ghost use Rattle.lid_stations.specs.Placements.{links_of, Fits};
+ghost use Rattle.lid_stations.specs.Placed.{links_in};
 
 use lid_rate_ratio::Ratio;
 use lid_slack::{
     Certified, Ways, certify, new_ways, propose_slack, slack, slack_and_next, slack_by_ways,
     slack_shown,
 };
-use lid_stations::Placement;
-use lid_system::System;
-use lid_tests_fixtures::{DIAMOND, MADE, RING, placed_of};
+use lid_stations::Placed;
+use lid_tests_fixtures::{DIAMOND, MADE, RING, SystemAndStations, placed_of};
 use std::alloc::Global;
 
 /// The slack of a channel, and the ratio with one more, or 0/0.
@@ -73,30 +71,25 @@ fn is_next(next: Option<Ratio>, p: u64, q: u64) -> bool {
 }
 
 /// Whether `slack` tells so many further relay stations.
-fn is_slack(alloc: Global, system: &System, placement: &Placement, channel: u32, added: u32) -> bool
-    requires system { IsWellFormed system.now }
-    requires fits { Fits system.now placement.now }
-    requires channel { channel < length system.now.channels }
+fn is_slack(alloc: Global, placed: &Placed<'_>, channel: u32, added: u32) -> bool
+    requires { channel < length placed.now.system.channels }
 {
-    match slack(alloc, system, placement, channel) {
+    match slack(alloc, placed.system, placed.placement, channel) {
         Ok(slack) => slack.added == added,
         Err(_) => false,
     }
 }
 
 /// Whether a channel has such a slack, with a walk where there is a ratio with one more.
-fn has_slack(alloc: Global, system: &System, placement: &Placement, case: Case) -> bool
-    requires system { IsWellFormed system.now }
-    requires fits { Fits system.now placement.now }
-{
+fn has_slack(alloc: Global, placed: &Placed<'_>, case: Case) -> bool {
     let (channel, added, p, q) = case;
-    if channel as usize >= system.channels.len() {
+    if channel as usize >= placed.system.channels.len() {
         return false;
     }
-    if !is_slack(alloc, system, placement, channel, added) {
+    if !is_slack(alloc, placed, channel, added) {
         return false;
     }
-    match slack_and_next(alloc, system, placement, channel) {
+    match slack_and_next(alloc, placed, channel) {
         Ok(all) => {
             all.slack.added == added
                 && all.slack.against.is_some() == all.next.is_some()
@@ -107,12 +100,9 @@ fn has_slack(alloc: Global, system: &System, placement: &Placement, case: Case) 
 }
 
 /// Whether each of some channels has such a slack.
-fn have_slacks(alloc: Global, system: &System, placement: &Placement, cases: &[Case]) -> bool
-    requires system { IsWellFormed system.now }
-    requires fits { Fits system.now placement.now }
-{
+fn have_slacks(alloc: Global, placed: &Placed<'_>, cases: &[Case]) -> bool {
     for case in cases {
-        if !has_slack(alloc, system, placement, *case) {
+        if !has_slack(alloc, placed, *case) {
             return false;
         }
     }
@@ -123,24 +113,21 @@ fn have_slacks(alloc: Global, system: &System, placement: &Placement, cases: &[C
 /// whether `slack_by_ways` tells it.
 fn is_shown(
     alloc: Global,
-    system: &System,
-    placement: &Placement,
+    placed: &Placed<'_>,
     present: &Certified,
     ways: &mut Ways,
     case: Case,
 ) -> bool
-    requires system { IsWellFormed system.now }
-    requires fits { Fits system.now placement.now }
-    requires present { IsCertified (links_of system.now) placement.now present.now }
+    requires { IsCertified (links_in placed.now) placed.now.placement present.now }
 {
     let (channel, added, p, q) = case;
-    if channel as usize >= system.channels.len() {
+    if channel as usize >= placed.system.channels.len() {
         return false;
     }
-    let Ok(told) = slack_by_ways(alloc, system, placement, present, channel, ways) else {
+    let Ok(told) = slack_by_ways(alloc, placed, present, channel, ways) else {
         return false;
     };
-    match slack_shown(system, placement, present, channel, &ways.proposal) {
+    match slack_shown(placed, present, channel, &ways.proposal) {
         Some(found) => {
             found.added == added
                 && is_next(found.next, p, q)
@@ -152,23 +139,20 @@ fn is_shown(
 }
 
 /// Whether each of some channels has such a slack by shortest ways, one after the other.
-fn are_shown(alloc: Global, system: &System, placement: &Placement, cases: &[Case]) -> bool
-    requires system { IsWellFormed system.now }
-    requires fits { Fits system.now placement.now }
-{
-    let Ok(present) = certify(alloc, system, placement) else {
+fn are_shown(alloc: Global, placed: &Placed<'_>, cases: &[Case]) -> bool {
+    let Ok(present) = certify(alloc, placed) else {
         return false;
     };
     let Ok(mut ways) = new_ways(
         alloc,
         &present.graph,
         &present.cert,
-        placement.relays.as_slice(),
+        placed.placement.relays.as_slice(),
     ) else {
         return false;
     };
     for case in cases {
-        if !is_shown(alloc, system, placement, &present, &mut ways, *case) {
+        if !is_shown(alloc, placed, &present, &mut ways, *case) {
             return false;
         }
     }
@@ -178,7 +162,13 @@ fn are_shown(alloc: Global, system: &System, placement: &Placement, cases: &[Cas
 /// The same of a netlist with stations as a text.
 fn are_shown_ways(alloc: Global, netlist: &[u8], stations: &[u8], cases: &[Case]) -> bool {
     match placed_of(alloc, netlist, stations) {
-        Some(placed) => are_shown(alloc, &placed.system, &placed.placement, cases),
+        Some(SystemAndStations { system, placement }) => {
+            let placed = Placed {
+                system: &system,
+                placement: &placement,
+            };
+            are_shown(alloc, &placed, cases)
+        }
         None => false,
     }
 }
@@ -186,17 +176,27 @@ fn are_shown_ways(alloc: Global, netlist: &[u8], stations: &[u8], cases: &[Case]
 /// The same of certificates.
 fn are_slacks(alloc: Global, netlist: &[u8], stations: &[u8], cases: &[Case]) -> bool {
     match placed_of(alloc, netlist, stations) {
-        Some(placed) => have_slacks(alloc, &placed.system, &placed.placement, cases),
+        Some(SystemAndStations { system, placement }) => {
+            let placed = Placed {
+                system: &system,
+                placement: &placement,
+            };
+            have_slacks(alloc, &placed, cases)
+        }
         None => false,
     }
 }
 
 /// The certificate of a netlist with stations as a text.
 fn certified(alloc: Global, netlist: &[u8], stations: &[u8]) -> Option<Certified> {
-    let Some(placed) = placed_of(alloc, netlist, stations) else {
+    let Some(SystemAndStations { system, placement }) = placed_of(alloc, netlist, stations) else {
         return None;
     };
-    match certify(alloc, &placed.system, &placed.placement) {
+    let placed = Placed {
+        system: &system,
+        placement: &placement,
+    };
+    match certify(alloc, &placed) {
         Ok(present) => Some(present),
         Err(_) => None,
     }
