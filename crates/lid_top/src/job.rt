@@ -9,7 +9,8 @@ ghost use Rattle.lid_top_script.specs.Whole.{RunsOn};
 ghost use Rattle.lid_top_script.specs.Causes.{IsJobEnd, IsStoppedJob, IsRefusedJob};
 ghost use Rattle.lid_top_script.specs.Statuses.{Writes, WritesPrefix, TellsAll, Leaves, writes_early};
 
-use crate::texts::{free_text, netlist_text, rows_text, told_text};
+use crate::held::{free_text, rows_text};
+use crate::texts::{netlist_text, told_text};
 use crate::writing::write_text;
 use lid_base::{Gate, Shelf, Sink};
 use lid_top_clock::{Asked, Workers, run_clock};

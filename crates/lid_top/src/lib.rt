@@ -1,6 +1,7 @@
 //! The top call: a job's words, its files, and what it writes.
 #![tactic(auto)]
 
+mod held;
 mod job;
 mod laws;
 mod program;

@@ -9,7 +9,7 @@ use crate::run::{Asked, Fed, HeldRun};
 use crate::walking::walked_text;
 use crate::waving::waved_text;
 use lid_base::{Gate, Shelf};
-use lid_top_script::{Stop, Wrapped, read_vec, read_wrapped};
+use lid_top_script::{RowsText, Stop, Wrapped, read_file, read_wrapped};
 use std::thread::Threads;
 
 /// What is written once the rows are read.
@@ -45,7 +45,8 @@ fn wrapped_text<'a, R: Threads + AllocGlobal + Sync, S: Shelf, G: Gate>(
     requires { IsSoundRun asked.now.run }
     ensures { RunsOn S.held S.faults shelf.old shelf.new (rows_step wrapped.now.design asked.now.vec.now (fed_script asked.now.run wrapped.now)) result }
 {
-    match read_vec(rt.alloc(), shelf, &wrapped.checked, asked.vec) {
+    let checked = &wrapped.checked;
+    match read_file(rt.alloc(), shelf, asked.vec, &RowsText { checked }) {
         Ok(rows) => {
             let fed = Fed {
                 wrapped,

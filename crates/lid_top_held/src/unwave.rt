@@ -1,30 +1,45 @@
 //! `unwave`: the trace that a value change dump shows.
 
-ghost use Rattle.std.specs.Prelude.{◌≡◌, ℕ, ◌≤◌, List, IfOk, IfErr};
+ghost use Rattle.std.specs.Prelude.{◌≡◌, IfOk, IfErr};
 ghost use Rattle.lid_texts_runs.specs.Runs.{trace_text};
-ghost use Rattle.lid_top_script.specs.Causes.{Declines, Got, IsWant, Misses};
-ghost use Rattle.lid_top_script.specs.Scripts.{good, dump_limit, dump_read, unwave_script};
+ghost use Rattle.lid_texts_runs.specs.declared.trace.Trace.{Trace};
+ghost use Rattle.lid_top_script.specs.Causes.{IsWant};
+ghost use Rattle.lid_top_script.specs.Scripts.{dump_limit, dump_read, unwave_script};
 ghost use Rattle.lid_top_script.specs.Whole.{RunsOn};
 ghost use Rattle.lid_vcd_form.specs.Writable.{IsWritable};
 
 use lid_base::Shelf;
 use lid_texts::{Trace, print_trace};
-use lid_top_script::{Stop, dump_stop, fetch_file};
+use lid_top_script::{FileText, Stop, dump_stop, read_file};
 use lid_vcd::read;
 use std::alloc::Global;
 
-/// The greatest size of a value change dump, in bytes.
-const DUMP_LIMIT: usize = 67_108_864;
+/// The text of a value change dump.
+#[derive(Clone, Copy)]
+struct DumpText;
 
-/// The trace of a dump.
-fn trace_of<'a>(alloc: Global, bytes: &[u8]) -> Result<Trace, Stop<'a>>
-    ensures ok { IfOk result (λ trace. dump_read bytes.now ≡ good trace) }
-    ensures writable { IfOk result IsWritable }
-    ensures err { IfErr result (Declines (dump_read bytes.now)) }
-{
-    match read(alloc, bytes) {
-        Ok(trace) => Ok(trace),
-        Err(fault) => Err(dump_stop(fault)),
+impl FileText for DumpText {
+    type Read = Trace;
+
+    ghost Told = { Trace };
+
+    ghost told = { λ trace. trace };
+
+    ghost limit = { dump_limit };
+
+    ghost reading = { λ _. dump_read };
+
+    ghost is_sound = { λ _. IsWritable };
+
+    fn limit(&self) -> u32 {
+        67_108_864
+    }
+
+    fn read<'a>(&self, alloc: Global, bytes: &[u8]) -> Result<Trace, Stop<'a>> {
+        match read(alloc, bytes) {
+            Ok(trace) => Ok(trace),
+            Err(fault) => Err(dump_stop(fault)),
+        }
     }
 }
 
@@ -41,20 +56,6 @@ fn text_of<'a>(alloc: Global, trace: &Trace) -> Result<Vec<u8>, Stop<'a>>
     }
 }
 
-/// Fetches and reads a dump.
-fn read_dump<'a, S: Shelf>(alloc: Global, shelf: &mut S, file: &'a str) -> Result<Trace, Stop<'a>>
-    ensures ok { IfOk result (Got (S.held shelf.old) file.now dump_limit dump_read) }
-    ensures writable { IfOk result IsWritable }
-    ensures err { IfErr result (Misses (S.held shelf.old) file.now dump_limit dump_read (S.faults shelf.old) (S.faults shelf.new)) }
-    ensures kept { S.held shelf.new ≡ S.held shelf.old }
-    ensures grows { (q : List ℕ) → S.faults shelf.old q ≤ S.faults shelf.new q }
-{
-    match fetch_file(alloc, shelf, file, DUMP_LIMIT) {
-        Ok(bytes) => trace_of(alloc, &bytes),
-        Err(stop) => Err(stop),
-    }
-}
-
 /// What `unwave` writes: how many stations and cycles a dump shows, and a line for each cycle. The dump is
 /// fetched up to one byte more than 67,108,864 bytes, and read.
 ///
@@ -67,7 +68,7 @@ pub fn unwave_text<'a, S: Shelf>(
 ) -> Result<Vec<u8>, Stop<'a>>
     ensures { RunsOn S.held S.faults shelf.old shelf.new (unwave_script file.now) result }
 {
-    match read_dump(alloc, shelf, file) {
+    match read_file(alloc, shelf, file, &DumpText) {
         Ok(trace) => text_of(alloc, &trace),
         Err(stop) => Err(stop),
     }

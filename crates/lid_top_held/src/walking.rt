@@ -16,7 +16,7 @@ ghost use Rattle.lid_walk.specs.Walks.{Walks};
 use crate::run::Fed;
 use lid_base::Shelf;
 use lid_texts::{print_answer, print_rows};
-use lid_top_script::{Stop, Wrapped, read_schedule_file};
+use lid_top_script::{ScheduleText, Stop, Wrapped, read_file};
 use lid_walk::Walk;
 use std::alloc::{AllocError, Global};
 
@@ -67,7 +67,8 @@ pub(crate) fn walked_text<'a, S: Shelf>(
     ensures { RunsOn S.held S.faults shelf.old shelf.new (schedule_script fed.now.wrapped.now.design (links_of fed.now.wrapped.now.system)
         fed.now.wrapped.now.placement schedule.now fed.now.rows.now.bits) result }
 {
-    match read_schedule_file(alloc, shelf, actors_of(fed.wrapped), schedule) {
+    let actors = actors_of(fed.wrapped);
+    match read_file(alloc, shelf, schedule, &ScheduleText { actors }) {
         Ok(list) => match lines_text(alloc, fed, list.as_slice()) {
             Ok(text) => Ok(text),
             Err(_) => Err(Stop::Memory),

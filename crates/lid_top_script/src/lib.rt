@@ -4,6 +4,7 @@
 
 mod fault;
 mod placing;
+mod reading;
 mod scheduling;
 mod stalling;
 mod steps;
@@ -12,10 +13,11 @@ mod wrapped;
 mod wrapping;
 
 pub use fault::{JobEnd, Stop, dump_stop, emit_stop, gen_stop, rows_stop};
-pub use placing::{read_cert, read_wires};
-pub use scheduling::read_schedule_file;
+pub use placing::{CertText, WiresText};
+pub use reading::{FileText, read_file};
+pub use scheduling::ScheduleText;
 pub use stalling::read_job_stalls;
-pub use steps::{accept, fetch_file, read_net, read_vec};
+pub use steps::{NetText, RowsText, accept};
 pub use tracing::judge_trace;
 pub use wrapped::{Built, NetFiles, Wrapped};
 pub use wrapping::{read_system, read_wrapped};

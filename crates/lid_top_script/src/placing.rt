@@ -1,14 +1,16 @@
 //! Placements and certificates that are read.
 
 ghost use Rattle.std.specs.Prelude.{◌≡◌, ℕ, ◌≤◌, List, IfOk, IfErr};
+ghost use Rattle.lid_cert.specs.declared.cert.Cert.{Cert};
 ghost use Rattle.lid_cert.specs.Certificates.{IsInRange};
+ghost use Rattle.lid_stations.specs.declared.placement.Placement.{Placement};
 ghost use Rattle.lid_stations.specs.Placements.{links_of, Fits};
 ghost use Rattle.lid_system.specs.Systems.{IsWellFormed as IsSystem};
-ghost use Rattle.lid_top_script.specs.Scripts.{good, text_limit, stations_read, wires_read, cert_read};
-ghost use Rattle.lid_top_script.specs.Causes.{Declines, Got, Misses, GotPlacement, MissesPlacement};
+ghost use Rattle.lid_top_script.specs.Scripts.{text_limit, stations_read, wires_read, cert_read};
+ghost use Rattle.lid_top_script.specs.Causes.{GotPlacement, MissesPlacement};
 
 use crate::fault::{Stop, cert_stop, place_stop};
-use crate::steps::fetch_file;
+use crate::reading::{FileText, read_file};
 use lid_base::{Shelf, Text};
 use lid_cert::Cert;
 use lid_stations::{Placement, none};
@@ -17,40 +19,37 @@ use lid_system::System;
 use std::alloc::Global;
 use std::convert::AsStr;
 
-/// The greatest size of a text of stations or wires, or of a certificate, in bytes.
-const TEXT_LIMIT: usize = 16_777_216;
-
-/// The placement of a text of stations.
-fn stations_of<'a>(alloc: Global, system: &System, bytes: &[u8]) -> Result<Placement, Stop<'a>>
-    requires { IsSystem system.now }
-    ensures ok { IfOk result (λ p. stations_read (links_of system.now) bytes.now ≡ good p) }
-    ensures fits { IfOk result (Fits system.now) }
-    ensures err { IfErr result (Declines (stations_read (links_of system.now) bytes.now)) }
-{
-    match read_stations(alloc, bytes, system) {
-        Ok(placement) => Ok(placement),
-        Err(fault) => Err(place_stop(fault)),
-    }
+/// The text of stations on the channels of a system.
+#[derive(Clone, Copy)]
+pub(crate) struct StationsText<'s> {
+    /// The system.
+    pub(crate) system: &'s System,
 }
 
-/// Fetches and reads stations.
-fn read_stations_file<'a, S: Shelf>(
-    alloc: Global,
-    shelf: &mut S,
-    system: &System,
-    stations: &'a str,
-) -> Result<Placement, Stop<'a>>
-    requires { IsSystem system.now }
-    ensures ok { IfOk result (Got (S.held shelf.old) stations.now text_limit (stations_read (links_of system.now))) }
-    ensures fits { IfOk result (Fits system.now) }
-    ensures err { IfErr result (Misses (S.held shelf.old) stations.now text_limit (stations_read (links_of system.now))
-        (S.faults shelf.old) (S.faults shelf.new)) }
-    ensures kept { S.held shelf.new ≡ S.held shelf.old }
-    ensures grows { (q : List ℕ) → S.faults shelf.old q ≤ S.faults shelf.new q }
-{
-    match fetch_file(alloc, shelf, stations, TEXT_LIMIT) {
-        Ok(bytes) => stations_of(alloc, system, &bytes),
-        Err(stop) => Err(stop),
+impl<'s> FileText for StationsText<'s> {
+    type Read = Placement;
+
+    ghost Told = { Placement };
+
+    ghost told = { λ placement. placement };
+
+    ghost limit = { text_limit };
+
+    ghost reading = { λ text. stations_read (links_of text.system.now) };
+
+    ghost is_ready = { λ text. IsSystem text.system.now };
+
+    ghost is_sound = { λ text. Fits text.system.now };
+
+    fn limit(&self) -> u32 {
+        16_777_216
+    }
+
+    fn read<'a>(&self, alloc: Global, bytes: &[u8]) -> Result<Placement, Stop<'a>> {
+        match read_stations(alloc, bytes, self.system) {
+            Ok(placement) => Ok(placement),
+            Err(fault) => Err(place_stop(fault)),
+        }
     }
 }
 
@@ -70,7 +69,7 @@ pub(crate) fn read_placement<'a, S: Shelf>(
     ensures grows { (q : List ℕ) → S.faults shelf.old q ≤ S.faults shelf.new q }
 {
     match stations {
-        Some(file) => read_stations_file(alloc, shelf, system, file.as_str()),
+        Some(file) => read_file(alloc, shelf, file.as_str(), &StationsText { system }),
         None => match none(alloc, system) {
             Ok(placement) => Ok(placement),
             Err(_) => Err(Stop::Memory),
@@ -78,74 +77,68 @@ pub(crate) fn read_placement<'a, S: Shelf>(
     }
 }
 
-/// The placement of a text of wires.
-fn wires_of<'a>(
-    alloc: Global,
-    system: &System,
-    reach: u64,
-    bytes: &[u8],
-) -> Result<Placement, Stop<'a>>
-    requires system { IsSystem system.now }
-    requires reach { 1 ≤ reach }
-    ensures ok { IfOk result (λ p. wires_read reach (links_of system.now) bytes.now ≡ good p) }
-    ensures fits { IfOk result (Fits system.now) }
-    ensures err { IfErr result (Declines (wires_read reach (links_of system.now) bytes.now)) }
-{
-    match place(alloc, bytes, reach, system) {
-        Ok(placement) => Ok(placement),
-        Err(fault) => Err(place_stop(fault)),
+/// The text of the wires of a system, on which relay stations are placed: one for each further length
+/// that a signal reaches in a cycle.
+#[derive(Clone, Copy)]
+pub struct WiresText<'s> {
+    /// The system.
+    pub system: &'s System,
+    /// How far a signal reaches in a cycle.
+    pub reach: u64,
+}
+
+impl<'s> FileText for WiresText<'s> {
+    type Read = Placement;
+
+    ghost Told = { Placement };
+
+    ghost told = { λ placement. placement };
+
+    ghost limit = { text_limit };
+
+    ghost reading = { λ text. wires_read text.reach (links_of text.system.now) };
+
+    ghost is_ready = { λ text. IsSystem text.system.now × (1 ≤ text.reach) };
+
+    ghost is_sound = { λ text. Fits text.system.now };
+
+    fn limit(&self) -> u32 {
+        16_777_216
+    }
+
+    fn read<'a>(&self, alloc: Global, bytes: &[u8]) -> Result<Placement, Stop<'a>> {
+        match place(alloc, bytes, self.reach, self.system) {
+            Ok(placement) => Ok(placement),
+            Err(fault) => Err(place_stop(fault)),
+        }
     }
 }
 
-/// Fetches and reads wires, and places relay stations on them.
-pub fn read_wires<'a, S: Shelf>(
-    alloc: Global,
-    shelf: &mut S,
-    system: &System,
-    wires: &'a str,
-    reach: u64,
-) -> Result<Placement, Stop<'a>>
-    requires system { IsSystem system.now }
-    requires reach { 1 ≤ reach }
-    ensures ok { IfOk result (Got (S.held shelf.old) wires.now text_limit (wires_read reach (links_of system.now))) }
-    ensures fits { IfOk result (Fits system.now) }
-    ensures err { IfErr result (Misses (S.held shelf.old) wires.now text_limit (wires_read reach (links_of system.now))
-        (S.faults shelf.old) (S.faults shelf.new)) }
-    ensures kept { S.held shelf.new ≡ S.held shelf.old }
-    ensures grows { (q : List ℕ) → S.faults shelf.old q ≤ S.faults shelf.new q }
-{
-    match fetch_file(alloc, shelf, wires, TEXT_LIMIT) {
-        Ok(bytes) => wires_of(alloc, system, reach, &bytes),
-        Err(stop) => Err(stop),
-    }
-}
+/// The text of a certificate.
+#[derive(Clone, Copy)]
+pub struct CertText;
 
-/// The certificate of a text.
-fn cert_of<'a>(alloc: Global, bytes: &[u8]) -> Result<Cert, Stop<'a>>
-    ensures ok { IfOk result (λ cert. cert_read bytes.now ≡ good cert) }
-    ensures range { IfOk result IsInRange }
-    ensures err { IfErr result (Declines (cert_read bytes.now)) }
-{
-    match lid_cert_text::read_cert(alloc, bytes) {
-        Ok(cert) => Ok(cert),
-        Err(fault) => Err(cert_stop(fault)),
-    }
-}
+impl FileText for CertText {
+    type Read = Cert;
 
-/// Fetches and reads a certificate.
-pub fn read_cert<'a, S: Shelf>(
-    alloc: Global,
-    shelf: &mut S,
-    cert: &'a str,
-) -> Result<Cert, Stop<'a>>
-    ensures ok { IfOk result (Got (S.held shelf.old) cert.now text_limit cert_read) }
-    ensures range { IfOk result IsInRange }
-    ensures err { IfErr result (Misses (S.held shelf.old) cert.now text_limit cert_read (S.faults shelf.old) (S.faults shelf.new)) }
-    ensures kept { S.held shelf.new ≡ S.held shelf.old }
-    ensures grows { (q : List ℕ) → S.faults shelf.old q ≤ S.faults shelf.new q }
-{
-    match fetch_file(alloc, shelf, cert, TEXT_LIMIT) {
-        Ok(bytes) => cert_of(alloc, &bytes),
-        Err(stop) => Err(stop),
+    ghost Told = { Cert };
+
+    ghost told = { λ cert. cert };
+
+    ghost limit = { text_limit };
+
+    ghost reading = { λ _. cert_read };
+
+    ghost is_sound = { λ _. IsInRange };
+
+    fn limit(&self) -> u32 {
+        16_777_216
+    }
+
+    fn read<'a>(&self, alloc: Global, bytes: &[u8]) -> Result<Cert, Stop<'a>> {
+        match lid_cert_text::read_cert(alloc, bytes) {
+            Ok(cert) => Ok(cert),
+            Err(fault) => Err(cert_stop(fault)),
+        }
     }
 }

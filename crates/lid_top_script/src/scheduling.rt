@@ -1,46 +1,43 @@
 //! Schedules that are read.
 
-ghost use Rattle.std.specs.Prelude.{◌≡◌, ℕ, ◌≤◌, ◌<◌, List, IfOk, IfErr};
+ghost use Rattle.std.specs.Prelude.{ℕ, ◌<◌, List};
 ghost use Rattle.std.specs.List.{AllByRecursion};
-ghost use Rattle.lid_top_script.specs.Scripts.{good, text_limit, schedule_read};
-ghost use Rattle.lid_top_script.specs.Causes.{Declines, Got, Misses};
+ghost use Rattle.lid_top_script.specs.Scripts.{text_limit, schedule_read};
 
 use crate::fault::{Stop, schedule_stop};
-use crate::steps::fetch_file;
-use lid_base::{Items, Shelf};
+use crate::reading::FileText;
+use lid_base::Items;
 use lid_texts::read_schedule;
 use std::alloc::Global;
 
-/// The greatest size of a text of a schedule, in bytes.
-const SCHEDULE_LIMIT: usize = 16_777_216;
-
-/// The schedule of a text, for so many actors.
-fn schedule_of<'a>(alloc: Global, actors: u32, bytes: &[u8]) -> Result<Items<u32>, Stop<'a>>
-    ensures ok { IfOk result (λ schedule. schedule_read actors bytes.now ≡ good schedule) }
-    ensures below { IfOk result (AllByRecursion (λ v. v < actors)) }
-    ensures err { IfErr result (Declines (schedule_read actors bytes.now)) }
-{
-    match read_schedule(alloc, bytes, actors) {
-        Ok(schedule) => Ok(schedule),
-        Err(fault) => Err(schedule_stop(fault)),
-    }
+/// The text of a schedule.
+#[derive(Clone, Copy)]
+pub struct ScheduleText {
+    /// How many actors there are.
+    pub actors: u32,
 }
 
-/// Fetches and reads a schedule, for so many actors.
-pub fn read_schedule_file<'a, S: Shelf>(
-    alloc: Global,
-    shelf: &mut S,
-    actors: u32,
-    schedule: &'a str,
-) -> Result<Items<u32>, Stop<'a>>
-    ensures ok { IfOk result (λ list. Got (S.held shelf.old) schedule.now text_limit (schedule_read actors) list) }
-    ensures below { IfOk result (AllByRecursion (λ v. v < actors)) }
-    ensures err { IfErr result (Misses (S.held shelf.old) schedule.now text_limit (schedule_read actors) (S.faults shelf.old) (S.faults shelf.new)) }
-    ensures kept { S.held shelf.new ≡ S.held shelf.old }
-    ensures grows { (q : List ℕ) → S.faults shelf.old q ≤ S.faults shelf.new q }
-{
-    match fetch_file(alloc, shelf, schedule, SCHEDULE_LIMIT) {
-        Ok(bytes) => schedule_of(alloc, actors, &bytes),
-        Err(stop) => Err(stop),
+impl FileText for ScheduleText {
+    type Read = Items<u32>;
+
+    ghost Told = { List ℕ };
+
+    ghost told = { λ list. list };
+
+    ghost limit = { text_limit };
+
+    ghost reading = { λ text. schedule_read text.actors };
+
+    ghost is_sound = { λ text. AllByRecursion (λ v. v < text.actors) };
+
+    fn limit(&self) -> u32 {
+        16_777_216
+    }
+
+    fn read<'a>(&self, alloc: Global, bytes: &[u8]) -> Result<Items<u32>, Stop<'a>> {
+        match read_schedule(alloc, bytes, self.actors) {
+            Ok(schedule) => Ok(schedule),
+            Err(fault) => Err(schedule_stop(fault)),
+        }
     }
 }

@@ -6,7 +6,8 @@ ghost use Rattle.lid_top_script.specs.Causes.{BuildsSystem, FailsSystem, GotSyst
 
 use crate::fault::Stop;
 use crate::placing::read_placement;
-use crate::steps::{accept, build_system, read_net};
+use crate::reading::read_file;
+use crate::steps::{NetText, accept, build_system};
 use crate::wrapped::{Built, NetFiles, Wrapped};
 use lid_base::{Name, Shelf};
 use lid_design::Design;
@@ -39,7 +40,7 @@ pub fn read_system<'a, S: Shelf>(
     ensures kept { S.held shelf.new ≡ S.held shelf.old }
     ensures grows { (q : List ℕ) → S.faults shelf.old q ≤ S.faults shelf.new q }
 {
-    match read_net(alloc, shelf, net) {
+    match read_file(alloc, shelf, net, &NetText) {
         Ok(design) => build_design(alloc, design, root),
         Err(stop) => Err(stop),
     }

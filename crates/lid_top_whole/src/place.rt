@@ -12,7 +12,7 @@ use lid_base::{Name, Shelf};
 use lid_stations::Placement;
 use lid_stations_text::print_stations;
 use lid_system::System;
-use lid_top_script::{Stop, read_system, read_wires};
+use lid_top_script::{Stop, WiresText, read_file, read_system};
 use std::alloc::Global;
 
 /// The text of a placement.
@@ -44,7 +44,7 @@ fn wires_text<'a, S: Shelf>(
     requires reach { 1 ≤ reach }
     ensures { RunsOn S.held S.faults shelf.old shelf.new (wires_script (links_of system.now) wires.now reach) result }
 {
-    match read_wires(alloc, shelf, system, wires, reach) {
+    match read_file(alloc, shelf, wires, &WiresText { system, reach }) {
         Ok(placement) => stations_text(alloc, system, &placement),
         Err(stop) => Err(stop),
     }

@@ -12,7 +12,7 @@ use lid_check::Checked;
 use lid_design::Design;
 use lid_strict::strict;
 use lid_texts::{Rows, print_rows};
-use lid_top_script::{Stop, accept, read_net, read_vec};
+use lid_top_script::{NetText, RowsText, Stop, accept, read_file};
 use std::alloc::Global;
 
 /// The text of the strict outputs.
@@ -39,7 +39,7 @@ fn rows_text<'a, S: Shelf>(
 ) -> Result<Vec<u8>, Stop<'a>>
     ensures { RunsOn S.held S.faults shelf.old shelf.new (rows_script checked.now vec.now) result }
 {
-    match read_vec(alloc, shelf, checked, vec) {
+    match read_file(alloc, shelf, vec, &RowsText { checked }) {
         Ok(rows) => outputs_text(alloc, checked, &rows),
         Err(stop) => Err(stop),
     }
@@ -72,7 +72,7 @@ pub fn strict_text<'a, S: Shelf>(
 ) -> Result<Vec<u8>, Stop<'a>>
     ensures { RunsOn S.held S.faults shelf.old shelf.new (strict_script net.now vec.now root.now) result }
 {
-    match read_net(alloc, shelf, net) {
+    match read_file(alloc, shelf, net, &NetText) {
         Ok(design) => checked_text(alloc, shelf, design, vec, root),
         Err(stop) => Err(stop),
     }

@@ -13,7 +13,7 @@ ghost use Rattle.lid_rate_text.specs.Throughput.{verdict_text};
 use lid_base::Shelf;
 use lid_cert::{Cert, check_by_owners};
 use lid_stations::marking;
-use lid_top_script::{NetFiles, Stop, Wrapped, read_cert, read_wrapped};
+use lid_top_script::{CertText, NetFiles, Stop, Wrapped, read_file, read_wrapped};
 use std::alloc::Global;
 
 /// Whether a certificate shows the throughput of a placement.
@@ -68,7 +68,7 @@ fn cert_text<'a, S: Shelf>(
 ) -> Result<Vec<u8>, Stop<'a>>
     ensures { RunsOn S.held S.faults shelf.old shelf.new (cert_script (links_of wrapped.now.system) wrapped.now.placement cert.now) result }
 {
-    match read_cert(alloc, shelf, cert) {
+    match read_file(alloc, shelf, cert, &CertText) {
         Ok(cert) => judged_text(alloc, wrapped, &cert),
         Err(stop) => Err(stop),
     }

@@ -16,6 +16,6 @@ pub returns-in-Err : goal.returns-in-Err
 returns-in-Err g c =
     let held = g.S.Shelf.held c.args.shelf.now in
     let before = g.S.Shelf.faults c.args.shelf.now in
-    let after = g.S.Shelf.faults c.read_vec.new.shelf in
+    let after = g.S.Shelf.faults c.read_file.new.shelf in
     let misses = subst (λ (w : Wrapping). Misses held c.args.asked.now.vec.now rows_limit (vec_reading w.design) before after c.in-Err.stop) c.wrapped.view_is c.in-Err.ensures.err in
     whole_stopped (cause_here _ _ _ _ _ _ _ c.in-Err.stop misses) c.in-Err.ensures.kept c.in-Err.ensures.grows

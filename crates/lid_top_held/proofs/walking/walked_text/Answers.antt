@@ -29,7 +29,7 @@ returns g c =
     let f = c.args.fed.now in
     let held = g.S.Shelf.held c.args.shelf.now in
     let before = g.S.Shelf.faults c.args.shelf.now in
-    let after = g.S.Shelf.faults c.read_schedule_file.new.shelf in
+    let after = g.S.Shelf.faults c.read_file.new.shelf in
     whole_stopped
     (cause_here held c.args.schedule.now text_limit (schedule_read (actor_count (links_of f.wrapped.now.system) f.wrapped.now.placement)) (next f) before after c.in-Err.stop
     (subst (λ (n : ℕ). Misses held c.args.schedule.now text_limit (schedule_read n) before after c.in-Err.stop) c.actors_of.ensures c.in-Err.ensures.err))

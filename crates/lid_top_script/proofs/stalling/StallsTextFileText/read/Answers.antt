@@ -2,7 +2,7 @@ use Rattle.std.proofs.Common.{subst, sym}
 use Rattle.lid_top_script.specs.Scripts.{stalls_read}
 use Rattle.lid_top_script.specs.Causes.{Declines}
 use Rattle.lid_top_script.proofs.Stalls.{stalls_are_good, stalls_decline}
-use Rattle.lid_top_script.proofs.stalling.stalls_of.Goals as goal
+use Rattle.lid_top_script.proofs.stalling.StallsTextFileText.read.Goals as goal
 
 pub returns-in-Ok-clause-ok : goal.returns-in-Ok-clause-ok
 returns-in-Ok-clause-ok c = stalls_are_good c.args.bytes.now c.in-Ok.stalls c.in-Ok.ensures.ok

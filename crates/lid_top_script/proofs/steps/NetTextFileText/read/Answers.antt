@@ -2,7 +2,7 @@ use Rattle.std.proofs.Common.{subst, sym}
 use Rattle.lid_top_script.specs.Scripts.{net_reading}
 use Rattle.lid_top_script.specs.Causes.{Declines}
 use Rattle.lid_top_script.proofs.Readings.{net_good, net_declines}
-use Rattle.lid_top_script.proofs.steps.net_of.Goals as goal
+use Rattle.lid_top_script.proofs.steps.NetTextFileText.read.Goals as goal
 
 pub returns-in-Ok-clause-ok : goal.returns-in-Ok-clause-ok
 returns-in-Ok-clause-ok c = net_good c.args.bytes.now c.in-Ok.design c.in-Ok.ensures.ok

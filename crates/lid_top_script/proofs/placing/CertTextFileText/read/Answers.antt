@@ -2,7 +2,7 @@ use Rattle.std.proofs.Common.{subst, sym}
 use Rattle.lid_top_script.specs.Scripts.{cert_read}
 use Rattle.lid_top_script.specs.Causes.{Declines}
 use Rattle.lid_top_script.proofs.Placements.{cert_good, cert_declines}
-use Rattle.lid_top_script.proofs.placing.cert_of.Goals as goal
+use Rattle.lid_top_script.proofs.placing.CertTextFileText.read.Goals as goal
 
 pub returns-in-Ok-clause-ok : goal.returns-in-Ok-clause-ok
 returns-in-Ok-clause-ok c = cert_good c.args.bytes.now c.in-Ok.cert c.in-Ok.ensures.ok
