@@ -19,13 +19,6 @@ use lid_stall::Stall;
 use lid_texts_feed::RowFeed;
 use std::thread::Threads;
 
-/// A run that has begun, and what is told of it.
-#[derive(Drop)]
-struct ToldRun {
-    run: Running,
-    telling: Telling,
-}
-
 /// Tells a run that has begun: the header, each output row after the cycle in which the sink fired for
 /// it, and the end.
 fn tell_run<S: Shelf, O: Sink, R: Threads + Sync, G: Gate>(
@@ -33,43 +26,42 @@ fn tell_run<S: Shelf, O: Sink, R: Threads + Sync, G: Gate>(
     out: &mut O,
     task: &Task<'_>,
     feed: &mut RowFeed,
-    told: &mut ToldRun,
+    run: &mut Running,
+    telling: &mut Telling,
     workers: &Workers<'_, R, G>,
 ) -> Result<(), RunFault>
     requires some { 0 < workers.now.many }
     requires fed { (r : ClockRun) × (given : List (List Bool)) × IsRunOf r task.now.system.now task.now.columns.now
-        × IsFed r (S.held shelf.old feed.old.name) told.old.run feed.old given }
-    requires none { told.old.run.made ≡ 0 }
-    requires line { told.old.telling.line.items ≡ [] }
-    requires held { told.old.telling.writer ≡ [] }
+        × IsFed r (S.held shelf.old feed.old.name) run.old feed.old given }
+    requires none { run.old.made ≡ 0 }
+    requires line { telling.old.line.items ≡ [] }
+    requires held { telling.old.writer ≡ [] }
     ensures ok { (r : ClockRun) (given : List (List Bool)) → IsRunOf r task.now.system.now task.now.columns.now
-        → IsFed r (S.held shelf.old feed.old.name) told.old.run feed.old given
+        → IsFed r (S.held shelf.old feed.old.name) run.old feed.old given
         → OnOk result (HasRun r (O.written out.old) (O.written out.new)) }
     ensures err { (r : ClockRun) (given : List (List Bool)) → IsRunOf r task.now.system.now task.now.columns.now
-        → IsFed r (S.held shelf.old feed.old.name) told.old.run feed.old given
+        → IsFed r (S.held shelf.old feed.old.name) run.old feed.old given
         → IfErr result (HasStopped r (O.written out.old) (O.written out.new)
         (Rose (S.faults shelf.old feed.old.name) (S.faults shelf.new feed.old.name)) (Rose (O.faults out.old) (O.faults out.new))) }
     ensures kept { S.held shelf.new ≡ S.held shelf.old }
     ensures grows { (q : List ℕ) → S.faults shelf.old q ≤ S.faults shelf.new q }
     ensures rises { O.faults out.old ≤ O.faults out.new }
 {
-    if let Err(fault) = told.telling.tell_header(task.columns, out) {
+    if let Err(fault) = telling.tell_header(task.columns, out) {
         return Err(fault);
     }
-    while told.run.stream.below() {
-        if let Err(fault) = told.run.go(shelf, feed, workers) {
+    while run.stream.below() {
+        if let Err(fault) = run.go(shelf, feed, workers) {
             return Err(fault);
         }
-        let row = told.run.stream.last();
-        if let Err(fault) = told.telling.tell_last(row, task.columns, out) {
+        if let Err(fault) = telling.tell_last(run.stream.last(), task.columns, out) {
             return Err(fault);
         }
     }
-    let nodes = task.system.nodes.len() as u32;
-    let Ok(()) = told.run.append_end(nodes, &mut told.telling.line) else {
+    let Ok(()) = run.append_end(task.system.nodes.len() as u32, &mut telling.line) else {
         return Err(RunFault::Memory);
     };
-    told.telling.finish(out)
+    telling.finish(out)
 }
 
 /// Runs a system with its stations over so many rows of a feed that has given none, and writes the text of
@@ -107,13 +99,12 @@ pub fn run<S: Shelf, O: Sink, R: Threads + AllocGlobal + Sync, G: Gate>(
     ensures rises { O.faults out.old ≤ O.faults out.new }
 {
     let alloc = workers.rt.alloc();
-    let run = match Running::start(alloc, shelf, task, feed, stalls) {
+    let mut run = match Running::start(alloc, shelf, task, feed, stalls) {
         Ok(run) => run,
         Err(fault) => return Err(fault),
     };
-    let Ok(telling) = Telling::start(alloc) else {
+    let Ok(mut telling) = Telling::start(alloc) else {
         return Err(RunFault::Memory);
     };
-    let mut told = ToldRun { run, telling };
-    tell_run(shelf, out, task, feed, &mut told, workers)
+    tell_run(shelf, out, task, feed, &mut run, &mut telling, workers)
 }

@@ -14,7 +14,7 @@ returns-in-Err-clause-err g c = λ r given of fed.
     record {
       rows = given;
       given = fed.running.rows;
-      told = λ l b. header_breaks r fed.running.rules.ascend given l b c.args.task.now.columns.now of.named (g.O.Sink.written c.args.out.now) (g.O.Sink.written c.tell_header.new.out) c.args.told.now.telling.writer c.requires.held c.in-Err.ensures.err;
+      told = λ l b. header_breaks r fed.running.rules.ascend given l b c.args.task.now.columns.now of.named (g.O.Sink.written c.args.out.now) (g.O.Sink.written c.tell_header.new.out) c.args.telling.now.writer c.requires.held c.in-Err.ensures.err;
       cause = cause_of_telling r given (Rose (g.S.Shelf.faults c.args.shelf.now c.args.feed.now.name) (g.S.Shelf.faults c.args.shelf.now c.args.feed.now.name)) (Rose (g.O.Sink.faults c.args.out.now) (g.O.Sink.faults c.tell_header.new.out)) (Rose (g.O.Sink.faults c.args.out.now) (g.O.Sink.faults c.tell_header.new.out)) c.in-Err.fault (λ rose. rose) c.in-Err.ensures.cause;
     }
 
@@ -27,7 +27,7 @@ loop-run-init g c =
         told = λ l b.
             subst (λ (k : ℕ). HasPushed (g.O.Sink.written c.args.out.now) (g.O.Sink.written c.tell_header.new.out) c.tell_header.new.self.writer (rows_text r.columns (first_outputs l (fired_after l k (sink l)))))
             (sym c.requires.none)
-            (header_told r fed.running.rules.ascend given l b c.args.task.now.columns.now of.named (g.O.Sink.written c.args.out.now) (g.O.Sink.written c.tell_header.new.out) c.args.told.now.telling.writer c.tell_header.new.self.writer c.requires.held c.in_default.ensures.ok);
+            (header_told r fed.running.rules.ascend given l b c.args.task.now.columns.now of.named (g.O.Sink.written c.args.out.now) (g.O.Sink.written c.tell_header.new.out) c.args.telling.now.writer c.tell_header.new.self.writer c.requires.held c.in_default.ensures.ok);
         line = c.in_default.ensures.none;
       };
       name = refl;
@@ -63,7 +63,7 @@ returns-in-Err-go-clause-err g c = λ r given of fed.
 pub returns-in-Err-tell_last-clause-err : goal.returns-in-Err-tell_last-clause-err
 returns-in-Err-tell_last-clause-err g c = λ r given of fed.
     let t = c.loop-run.invariant.telling r given of fed in
-    let made = c.loop-run.told.run.made in
+    let made = c.loop-run.run.made in
     let gone = c.in_default-go.ensures.ok r t.given t.fed (goes_on r _ _ _ _ _ _ t _ c.below.ensures c.loop-run-test.true) in
     record {
       rows = gone.given;
@@ -71,7 +71,7 @@ returns-in-Err-tell_last-clause-err g c = λ r given of fed.
       told = λ l b.
           last_breaks r gone.running.rules.ascend gone.given l b made (lent c.last.result)
           (subst (λ (k : ℕ). IsLast l k (lent c.last.result)) gone.one (c.last.ensures l c.go.new.self.made (length gone.given) (gone.running.lives l b).ran))
-          (g.O.Sink.written c.args.out.now) (g.O.Sink.written c.loop-run.out) (g.O.Sink.written c.tell_last.new.out) c.loop-run.told.telling.writer (t.told l (gone.further l b)) c.args.task.now.columns.now of.named c.in-Err-tell_last.ensures.err;
+          (g.O.Sink.written c.args.out.now) (g.O.Sink.written c.loop-run.out) (g.O.Sink.written c.tell_last.new.out) c.loop-run.telling.writer (t.told l (gone.further l b)) c.args.task.now.columns.now of.named c.in-Err-tell_last.ensures.err;
       cause =
           cause_of_telling r gone.given (Rose (g.S.Shelf.faults c.args.shelf.now c.args.feed.now.name) (g.S.Shelf.faults c.go.new.shelf c.args.feed.now.name)) (Rose (g.O.Sink.faults c.loop-run.out) (g.O.Sink.faults c.tell_last.new.out)) (Rose (g.O.Sink.faults c.args.out.now) (g.O.Sink.faults c.tell_last.new.out)) c.in-Err-tell_last.fault
           (λ rose. rose_later (g.O.Sink.faults c.args.out.now) (g.O.Sink.faults c.loop-run.out) (g.O.Sink.faults c.tell_last.new.out) c.loop-run.invariant.rises rose) c.in-Err-tell_last.ensures.cause;
@@ -84,7 +84,7 @@ pub loop-run-smaller : goal.loop-run-smaller
 loop-run-smaller g c =
     let start = c.requires.fed in
     let t = c.loop-run.invariant.telling start.0 start.1 start.2 start.3 in
-    let made = c.loop-run.told.run.made in
+    let made = c.loop-run.run.made in
     let goes = goes_on start.0 _ _ _ _ _ _ t _ c.below.ensures c.loop-run-test.true in
     let gone = c.in_default-go.ensures.ok start.0 t.given t.fed goes in
     smaller made c.go.new.self.made gone.one gone.few
@@ -94,7 +94,7 @@ loop-run-preserved g c =
     record {
       telling = λ r given of fed.
           let t = c.loop-run.invariant.telling r given of fed in
-          let made = c.loop-run.told.run.made in
+          let made = c.loop-run.run.made in
           let gone = c.in_default-go.ensures.ok r t.given t.fed (goes_on r _ _ _ _ _ _ t _ c.below.ensures c.loop-run-test.true) in
           record {
             given = gone.given;
@@ -108,7 +108,7 @@ loop-run-preserved g c =
                 (sym gone.one)
                 (last_told r gone.running.rules.ascend gone.given l b made (lent c.last.result)
                 (subst (λ (k : ℕ). IsLast l k (lent c.last.result)) gone.one (c.last.ensures l c.go.new.self.made (length gone.given) (gone.running.lives l b).ran))
-                (g.O.Sink.written c.args.out.now) (g.O.Sink.written c.loop-run.out) (g.O.Sink.written c.tell_last.new.out) c.loop-run.told.telling.writer (t.told l (gone.further l b)) c.args.task.now.columns.now of.named c.tell_last.new.self.writer c.in_default-tell_last.ensures.ok);
+                (g.O.Sink.written c.args.out.now) (g.O.Sink.written c.loop-run.out) (g.O.Sink.written c.tell_last.new.out) c.loop-run.telling.writer (t.told l (gone.further l b)) c.args.task.now.columns.now of.named c.tell_last.new.self.writer c.in_default-tell_last.ensures.ok);
             line = c.in_default-tell_last.ensures.none;
           };
       name = c.in_default-go.ensures.name ∙ c.loop-run.invariant.name;
@@ -142,7 +142,7 @@ returns-clause-ok g c = λ r given of fed.
       given = t.fed.running.rows;
       told =
           over_told r _ _ _ _ _ _ t _ c.below.ensures c.loop-run-test.false (g.O.Sink.written c.finish.new.out) c.append_end.new.into.items
-          (λ l b. c.in-Ok.ensures r t.given l t.fed.running b (c.len.ensures ∙ ap (λ s. length s.nodes) (sym of.of)) ∙ ap (λ (xs : List ℕ). xs ++ end_text l r.stalls r.trace c.loop-run.told.run.made) t.line) close;
+          (λ l b. c.in-Ok.ensures r t.given l t.fed.running b (c.len.ensures ∙ ap (λ s. length s.nodes) (sym of.of)) ∙ ap (λ (xs : List ℕ). xs ++ end_text l r.stalls r.trace c.loop-run.run.made) t.line) close;
     })
     c.finish.ensures.ok
 
@@ -155,7 +155,7 @@ returns-clause-err g c = λ r given of fed.
       given = t.fed.running.rows;
       told =
           over_breaks r _ _ _ _ _ _ t _ c.below.ensures c.loop-run-test.false (g.O.Sink.written c.finish.new.out) c.append_end.new.into.items
-          (λ l b. c.in-Ok.ensures r t.given l t.fed.running b (c.len.ensures ∙ ap (λ s. length s.nodes) (sym of.of)) ∙ ap (λ (xs : List ℕ). xs ++ end_text l r.stalls r.trace c.loop-run.told.run.made) t.line) break;
+          (λ l b. c.in-Ok.ensures r t.given l t.fed.running b (c.len.ensures ∙ ap (λ s. length s.nodes) (sym of.of)) ∙ ap (λ (xs : List ℕ). xs ++ end_text l r.stalls r.trace c.loop-run.run.made) t.line) break;
       cause =
           cause_of_telling r t.given (Rose (g.S.Shelf.faults c.args.shelf.now c.args.feed.now.name) (g.S.Shelf.faults c.loop-run.shelf c.args.feed.now.name)) (Rose (g.O.Sink.faults c.loop-run.out) (g.O.Sink.faults c.finish.new.out)) (Rose (g.O.Sink.faults c.args.out.now) (g.O.Sink.faults c.finish.new.out)) fault
           (λ rose. rose_later (g.O.Sink.faults c.args.out.now) (g.O.Sink.faults c.loop-run.out) (g.O.Sink.faults c.finish.new.out) c.loop-run.invariant.rises rose) cause;

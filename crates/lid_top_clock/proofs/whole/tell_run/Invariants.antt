@@ -7,8 +7,8 @@ use Rattle.lid_top_clock.proofs.whole.tell_run.Given as goal
 -- each run that begins so is told as far as its cycles go
 abbrev pub invariant-loop-run : goal.invariant-loop-run
 invariant-loop-run g l = record {
-  telling : (r : ClockRun) (given : List (List Bool)) → IsRunOf r l.fn.task.system.now l.fn.task.columns.now → IsFed r (g.S.Shelf.held l.fn.shelf l.fn.feed.name) l.fn.told.run l.fn.feed given
-      → IsTelling r (g.S.Shelf.held l.shelf l.feed.name) l.told.run l.feed l.told.telling (g.O.Sink.written l.fn.out) (g.O.Sink.written l.out);
+  telling : (r : ClockRun) (given : List (List Bool)) → IsRunOf r l.fn.task.system.now l.fn.task.columns.now → IsFed r (g.S.Shelf.held l.fn.shelf l.fn.feed.name) l.fn.run l.fn.feed given
+      → IsTelling r (g.S.Shelf.held l.shelf l.feed.name) l.run l.feed l.telling (g.O.Sink.written l.fn.out) (g.O.Sink.written l.out);
   name : l.feed.name ≡ l.fn.feed.name;
   kept : g.S.Shelf.held l.shelf ≡ g.S.Shelf.held l.fn.shelf;
   grows : (q : List ℕ) → g.S.Shelf.faults l.fn.shelf q ≤ g.S.Shelf.faults l.shelf q;
@@ -16,4 +16,4 @@ invariant-loop-run g l = record {
 }
 
 abbrev pub decreases-loop-run : goal.decreases-loop-run
-decreases-loop-run g l = 2 ^ 64 - l.told.run.made
+decreases-loop-run g l = 2 ^ 64 - l.run.made
