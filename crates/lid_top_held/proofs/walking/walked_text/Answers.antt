@@ -18,7 +18,7 @@ unfolding schedule_script
 returns-in-Ok-lines_text g c =
     let f = c.args.fed.now in
     let held = g.S.Shelf.held c.args.shelf.now in
-    let got = subst (λ (n : ℕ). Got held c.args.schedule.now text_limit (schedule_read n) c.in-Ok.list) c.actors_of.ensures c.in-Ok.ensures.ok in
+    let got = subst (λ (n : ℕ). Got held c.args.schedule.now text_limit (schedule_read n) c.in-Ok.list) c.actors_of-actors.ensures c.in-Ok.ensures.ok in
     whole_given (within_read held c.args.schedule.now text_limit (schedule_read (actor_count (links_of f.wrapped.now.system) f.wrapped.now.placement)) (next f) c.in-Ok.list got)
     (subst (λ list. IsTextOf (walked f.wrapped.now.design (links_of f.wrapped.now.system) f.wrapped.now.placement f.rows.now.bits list) c.in-Ok-lines_text.text.items) c.as_slice.ensures c.in-Ok-lines_text.ensures)
     tt c.in-Ok.ensures.kept c.in-Ok.ensures.grows
@@ -32,5 +32,5 @@ returns g c =
     let after = g.S.Shelf.faults c.read_file.new.shelf in
     whole_stopped
     (cause_here held c.args.schedule.now text_limit (schedule_read (actor_count (links_of f.wrapped.now.system) f.wrapped.now.placement)) (next f) before after c.in-Err.stop
-    (subst (λ (n : ℕ). Misses held c.args.schedule.now text_limit (schedule_read n) before after c.in-Err.stop) c.actors_of.ensures c.in-Err.ensures.err))
+    (subst (λ (n : ℕ). Misses held c.args.schedule.now text_limit (schedule_read n) before after c.in-Err.stop) c.actors_of-actors.ensures c.in-Err.ensures.err))
     c.in-Err.ensures.kept c.in-Err.ensures.grows
