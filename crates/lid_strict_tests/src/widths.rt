@@ -10,7 +10,7 @@ use lid_strict_engine::Program;
 use lid_strict_widths::{by_level, by_width};
 use std::alloc::{AllocError, Global};
 
-/// The constant 1 of so many inputs.
+/// The constant 0 of so many inputs.
 fn cover_of(alloc: Global, inputs: u32) -> Result<Cover, AllocError>
     requires { inputs ≤ 6 }
     ensures { IfOk result (λ c. IsCover c × (c.inputs ≡ inputs)) }
@@ -24,40 +24,51 @@ fn cover_of(alloc: Global, inputs: u32) -> Result<Cover, AllocError>
 
 fn push_one(program: &mut Program, cover: &Cover, from: u32, out: u32) -> Result<(), AllocError>
     requires laid { IsProgram 0 program.old }
-    requires nets { program.old.nets ≡ 8 }
+    requires nets { program.old.nets ≡ 12 }
     requires cover { IsCover cover.now × (cover.now.inputs ≡ 1) }
-    requires few { (from < 8) × (out < 8) }
+    requires few { (from < 12) × (out < 12) }
     ensures laid { OnOk result (IsProgram 0 program.new) }
-    ensures nets { program.new.nets ≡ 8 }
+    ensures nets { program.new.nets ≡ 12 }
 {
     program.push(&[from], out, cover)
 }
 
-fn push_two(program: &mut Program, cover: &Cover, from: u32, out: u32) -> Result<(), AllocError>
+fn push_two(
+    program: &mut Program,
+    cover: &Cover,
+    from: u32,
+    other: u32,
+    out: u32,
+) -> Result<(), AllocError>
     requires laid { IsProgram 0 program.old }
-    requires nets { program.old.nets ≡ 8 }
+    requires nets { program.old.nets ≡ 12 }
     requires cover { IsCover cover.now × (cover.now.inputs ≡ 2) }
-    requires few { (from < 7) × (out < 8) }
+    requires few { (from < 12) × (other < 12) × (out < 12) }
     ensures laid { OnOk result (IsProgram 0 program.new) }
-    ensures nets { program.new.nets ≡ 8 }
+    ensures nets { program.new.nets ≡ 12 }
 {
-    program.push(&[from, from + 1], out, cover)
+    program.push(&[from, other], out, cover)
 }
 
-/// Nets 0 and 1 are given; 2 to 5 stand on these, and 6 and 7 on those. Widths go up and down.
+/// Nets 0 and 1 are given. Nets 2, 6, 7 and 8 stand on these; 3 and 10 on 2; 4, 5 and 9 on 3, and 11 on 10. Widths go
+/// up and down; of 4 the second read is the deeper one, of 5 the first.
 fn fill(program: &mut Program, one: &Cover, two: &Cover) -> Result<(), AllocError>
     requires laid { IsProgram 0 program.old }
-    requires nets { program.old.nets ≡ 8 }
+    requires nets { program.old.nets ≡ 12 }
     requires one { IsCover one.now × (one.now.inputs ≡ 1) }
     requires two { IsCover two.now × (two.now.inputs ≡ 2) }
     ensures laid { OnOk result (IsReadyProgram program.new) }
 {
-    push_two(program, two, 0, 2)?;
-    push_one(program, one, 0, 3)?;
-    push_two(program, two, 0, 4)?;
-    push_one(program, one, 1, 5)?;
-    push_two(program, two, 2, 6)?;
-    push_one(program, one, 4, 7)?;
+    push_two(program, two, 0, 1, 2)?;
+    push_one(program, one, 2, 3)?;
+    push_two(program, two, 0, 3, 4)?;
+    push_two(program, two, 3, 0, 5)?;
+    push_one(program, one, 0, 6)?;
+    push_two(program, two, 1, 0, 7)?;
+    push_two(program, two, 0, 1, 8)?;
+    push_one(program, one, 3, 9)?;
+    push_two(program, two, 2, 0, 10)?;
+    push_one(program, one, 10, 11)?;
     program.finish()
 }
 
@@ -66,7 +77,7 @@ fn mixed(alloc: Global) -> Result<Program, AllocError>
 {
     let one = cover_of(alloc, 1)?;
     let two = cover_of(alloc, 2)?;
-    let mut program = Program::new(alloc, 8);
+    let mut program = Program::new(alloc, 12);
     fill(&mut program, &one, &two)?;
     Ok(program)
 }
@@ -82,7 +93,13 @@ fn writes(program: Program, outs: &[u32], groups: usize) -> Result<bool, AllocEr
 #[test]
 fn steps_stand_by_level_and_width(rt: HostRuntime) -> Result<(), AllocError> {
     let alloc = rt.alloc();
-    assert!(rt; writes(mixed(alloc)?, &[2, 3, 4, 5, 6, 7], 6)?);
-    assert!(rt; writes(by_level(mixed(alloc)?)?, &[3, 5, 2, 4, 7, 6], 4)?);
+    assert!(rt; writes(mixed(alloc)?, &[2, 3, 4, 5, 6, 7, 8, 9, 10, 11], 8)?);
+    assert!(rt;
+        writes(
+            by_level(mixed(alloc)?)?,
+            &[6, 2, 7, 8, 3, 10, 9, 11, 4, 5],
+            6
+        )?
+    );
     Ok(())
 }
