@@ -4,9 +4,10 @@ Run it at the top of the repository, on a tree whose changes are committed.
 
     tools/dev/rename.py [--dry] CRATE/FILE.NAME=NEW..
 
-As in `lid_size/Sizing.IsBefore=ComesBefore`. Fields of that name (`x.name`, `name =` and `pub name :` in a record) stay as they are.
-A file that already has the new name is refused. Told, and left: places where the name is bound anew, and comments
-that name it in small letters.
+As in `lid_size/Sizing.IsBefore=ComesBefore`. Labels of clauses and fields of records (`x.name`, `name =`) keep their
+names, and so do functions of the code: only clauses and imports of definitions change in .rt. Comments change where
+the name is in capitals or between backticks. A file that already has the new name is refused, and nothing is written.
+Told, to be looked at: places where the new name is bound or defined. What it gives is for the prover to judge.
 """
 
 import re
@@ -117,9 +118,10 @@ def main():
     texts = {path: path.read_text() for path in files()}
     first = dict(texts)
     for change in given.CHANGE:
-        place, new = change.split("=")
-        place, name = place.rsplit(".", 1)
-        crate, file = place.split("/", 1)
+        form = re.fullmatch(r"(\w+)/(\w+)\.([\w'-]+)=([\w'-]+)", change)
+        if not form:
+            sys.exit(f"{change}: not of the form CRATE/FILE.NAME=NEW")
+        crate, file, name, new = form.groups()
         home = Path("crates", crate, "specs", f"{file}.antt")
         if home not in texts:
             sys.exit(f"{home} is not there")
