@@ -1,5 +1,5 @@
 -- A run that was built, and laid flat, is one that has made no cycle.
-use Rattle.std.proofs.Common.{◌≡◌, ℕ, ◌≤◌, min, List, length, sym, ◌∙◌, subst, arith}
+use Rattle.std.proofs.Common.{◌≡◌, ℕ, ◌≤◌, min, false, List, length, refl, sym, ◌∙◌, subst, arith}
 use Rattle.std.specs.Prelude.{Some, slice_get}
 use Rattle.lid_clock.specs.declared.actor.ClockActor.{ClockActor}
 use Rattle.lid_clock.specs.declared.stream.ClockStream.{ClockStream}
@@ -11,6 +11,7 @@ use Rattle.lid_clock_flat.specs.declared.run.FlatRun.{FlatRun}
 use Rattle.lid_clock_flat.specs.Layings.{AreEmptied, AreFlattened, DrainSome}
 use Rattle.lid_clock_flat.specs.Flats.{AreFlat, AreNodesAt}
 use Rattle.lid_clock_flat.specs.Runs.{FlatRan, IsFlatRunOf}
+use borrow.Author.Clash.{clash}
 use Rattle.lid_clock_flat.proofs.Laid.{none_fired, laid_flat, drain_some, laid_movers, first_nodes, first_at}
 
 -- no token was taken from its stations, of which there are few, and its movers drain some
@@ -34,5 +35,11 @@ begun r l g count rows x stations run ran is many given laid has = record {
   all_movers = laid_movers r l ran.rules g count x.actors.items run.movers.items is ran.all_actors has.movers;
   all_stations = subst (λ (s : FlatStations). AreFlat l 0 s.all.items s.places.items) (sym has.stations_are) (laid_flat r l ran.rules x.stations.items stations ran.all_stations laid);
   flags = has.flags ∙ ran.all_actors.many;
+  unset = has.unset;
+  asleep = record {
+    many = has.looked ∙ ran.all_actors.many;
+    barred = λ v e. clash false (has.all v false e) refl;
+    rested = λ v a e at. clash false (has.all v false e) refl;
+  };
   latest = λ a at. ran.latest a (first_at count x.actors.items (sink l) a (subst (λ (xs : List ClockActor). slice_get xs (sink l) ≡ Some a) has.nodes at));
 }

@@ -88,7 +88,7 @@ module _ (l : Life) (k g v : ℕ) (a : ClockActor) (x : FlatStations) (actor : I
 
 module _ (r : RunsGoByRules) (l : Life) (k g v : ℕ) (held : Bool) (a : ClockActor) (x : FlatStations) (begins : NodeBegins l k g v held a x) where
   -- a node that fires
-  pub node_fired : (new : ClockActor) (y : FlatStations) → held ≡ false → SeesNoBar a x.all.items → NodeFires a x new y → NodeDecided l k g v true new x y
+  pub node_fired : (new : ClockActor) (y : FlatStations) → held ≡ false → SeesNoBar a x.all.items → NodeFires a x new y → NodeDecided l k g v held true new x y
   node_fired new y free clear fires =
       let actor = begins.actor in
       let may : MayFire (links_of l.setup.system) l.setup.placement (length l.setup.input) (fired_after l k) v = may_fire l k x.all.items x.places.items begins.beside g v a actor clear in
@@ -110,14 +110,16 @@ module _ (r : RunsGoByRules) (l : Life) (k g v : ℕ) (held : Bool) (a : ClockAc
           alone = alone l k g v a x actor begins.beside new.tokens.items y fires.offered;
           offers = λ _. offers l k g v a x actor begins.beside new.tokens.items y fires.offered done.puts;
         };
+        bars = λ e _. clash true refl e;
       }
 
   -- a node that is held, or may not fire
-  pub node_rested : (held ≡ true) ⊎ MayNotFire (links_of l.setup.system) l.setup.placement (length l.setup.input) (fired_after l k) v → NodeDecided l k g v false (record a { went = false }) x x
+  pub node_rested : (held ≡ true) ⊎ MayNotFire (links_of l.setup.system) l.setup.placement (length l.setup.input) (fired_after l k) v → NodeDecided l k g v held false (record a { went = false }) x x
   node_rested why =
       let decided : Decided l k g v (record a { went = false }) = rested r l k g v a begins.begins begins.actor (elim why [ inl h ↦ inl (begins.holds ∙ h) | inr h ↦ inr h ]) in
       record {
         decided = decided;
         is = refl;
         steps = record { chose = chose_by l k g v false (record a { went = false }) decided refl; alone = none_written v x; offers = λ h. clash false h refl };
+        bars = λ _ free. elim why [ inl h ↦ clash held h free | inr h ↦ h ];
       }

@@ -7,11 +7,14 @@ pub mod Settled
 pub mod Bars
 pub mod Firing
 pub mod Moves
-pub mod Decisions
+pub mod Waking
+pub mod Ending
 pub mod Alike
+pub mod Going
 pub mod Told
 pub mod Laid
 pub mod Beginning
 pub mod Begun
 pub mod Giving
 pub mod Stalled
+pub mod Unheld

@@ -169,6 +169,7 @@ module _ (r : RunsGoByRules) (l : Life) (k v : ℕ) (m : FlatMover) (x : FlatSta
               (subst (λ (w : FlatStation). token_on y.places.items w w.held ≡ token_of_life l (m.station + 1) (put_after l k (m.station + 1))) one
               (written x.all.items x.places.items y.places.items (m.station + 1) _ to.0 flat.apart to.1 room is ∙ token_is some));
         };
+        bars = λ e. clash true refl e;
       }
 
   -- a mover that may not fire
@@ -182,4 +183,5 @@ module _ (r : RunsGoByRules) (l : Life) (k v : ℕ) (m : FlatMover) (x : FlatSta
           alone = none_written v x;
           offers = λ h. clash false h refl;
         };
+        bars = λ _. may_not_fire bar;
       }

@@ -2,8 +2,9 @@
 use Rattle.std.specs.Prelude.{◌≡◌, ◌≢◌, ℕ, suc, ◌+◌, ◌<◌, ◌≤◌, Bool, true, false, List, [], ◌∷◌, length, Some, slice_get}
 use Rattle.lid_stations.specs.Placements.{links_of}
 use Rattle.lid_stations.specs.Stations.{filler, drainer, capacity}
+use Rattle.lid_shell_laws.specs.Rules.{MayNotFire}
 use Rattle.lid_clock.specs.declared.actor.ClockActor.{ClockActor}
-use Rattle.lid_clock.specs.Lives.{Life, IsLife, Holds, fired_after}
+use Rattle.lid_clock.specs.Lives.{Life, IsLife, fired_after}
 use Rattle.lid_clock.specs.States.{ins_of, outs_of, token_of_life, put_after, taken_after, actors_of, stations_of, IsActor, Decided, MayBegin}
 use Rattle.lid_clock_flat.specs.declared.station.FlatStation.{FlatStation}
 use Rattle.lid_clock_flat.specs.declared.stations.FlatStations.{FlatStations}
@@ -42,6 +43,10 @@ pub record AreNodesAt (l : Life) (k g : ℕ) (nodes : List ClockActor) : Type 0 
   pub many : length nodes ≡ length l.setup.system.nodes
   pub each : (v : ℕ) (a : ClockActor) → slice_get nodes v ≡ Some a → IsActor l g v (fired_after l k v) a
 
+-- an actor may not fire in cycle k
+abbrev pub IsBarred : Life → ℕ → ℕ → Type 0
+IsBarred l k v = MayNotFire (links_of l.setup.system) l.setup.placement (length l.setup.input) (fired_after l k) v
+
 -- whether an actor fired in cycle k
 pub record Chose (l : Life) (k v : ℕ) (went : Bool) : Type 0 where
   pub goes : went ≡ true → fired_after l (suc k) v ≡ fired_after l k v + 1
@@ -79,25 +84,11 @@ pub record NodeBegins (l : Life) (k g v : ℕ) (held : Bool) (a : ClockActor) (x
   pub holds : l.hold k v ≡ held
 
 -- and after its decision
-pub record NodeDecided (l : Life) (k g v : ℕ) (went : Bool) (a : ClockActor) (old new : FlatStations) : Type 0 where
+pub record NodeDecided (l : Life) (k g v : ℕ) (held went : Bool) (a : ClockActor) (old new : FlatStations) : Type 0 where
   pub decided : Decided l k g v a
   pub is : a.went ≡ went
   pub steps : StationsStep l k v went old new
-
--- all nodes as cycle k begins
-pub record NodesBegin (l : Life) (k g : ℕ) (source last : Bool) (nodes : List ClockActor) (x : FlatStations) (went : List Bool) : Type 0 where
-  pub begins : MayBegin l k g
-  pub holds : Holds l k source last
-  pub all : AreNodesAt l k g nodes
-  pub beside : AreFlat l k x.all.items x.places.items
-  pub many : length went ≡ actors_of l
-
--- and after the first i of them have decided
-pub record NodesDecided (l : Life) (k g i : ℕ) (nodes : List ClockActor) (x : FlatStations) (went : List Bool) : Type 0 where
-  pub count : length nodes ≡ length l.setup.system.nodes
-  pub before : (v : ℕ) (a : ClockActor) → v < i → slice_get nodes v ≡ Some a → Decided l k g v a
-  pub after : (v : ℕ) (a : ClockActor) → i ≤ v → slice_get nodes v ≡ Some a → IsActor l g v (fired_after l k v) a
-  pub done : HaveDecided l k i x went
+  pub bars : went ≡ false → held ≡ false → IsBarred l k v
 
 -- a mover as cycle k begins, in which it is not held
 pub record MoverBegins (l : Life) (k v : ℕ) (m : FlatMover) (x : FlatStations) : Type 0 where
@@ -110,17 +101,4 @@ pub record MoverBegins (l : Life) (k v : ℕ) (m : FlatMover) (x : FlatStations)
 pub record MoverDecided (l : Life) (k v : ℕ) (went : Bool) (m : FlatMover) (old new : FlatStations) : Type 0 where
   pub mover : IsMover l (suc k) v m
   pub steps : StationsStep l k v went old new
-
--- all movers, after the first i of them have decided, and all nodes before
-pub record MoversDecided (l : Life) (k i : ℕ) (movers : List FlatMover) (x : FlatStations) (went : List Bool) : Type 0 where
-  pub count : length l.setup.system.nodes + length movers ≡ actors_of l
-  pub before : (j : ℕ) (m : FlatMover) → j < i → slice_get movers j ≡ Some m → IsMover l (suc k) (length l.setup.system.nodes + j) m
-  pub after : (j : ℕ) (m : FlatMover) → i ≤ j → slice_get movers j ≡ Some m → IsMover l k (length l.setup.system.nodes + j) m
-  pub done : HaveDecided l k (length l.setup.system.nodes + i) x went
-
--- all movers as the nodes have decided
-pub record MoversBegin (l : Life) (k : ℕ) (first : ℕ) (movers : List FlatMover) (x : FlatStations) (went : List Bool) : Type 0 where
-  pub rules : IsLife l
-  pub free : (v : ℕ) → length l.setup.system.nodes ≤ v → l.hold k v ≡ false
-  pub from : first ≡ length l.setup.system.nodes
-  pub state : MoversDecided l k 0 movers x went
+  pub bars : went ≡ false → IsBarred l k v

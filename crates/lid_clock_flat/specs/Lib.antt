@@ -3,6 +3,9 @@ pub mod Reads
 pub mod Nodes
 pub mod Moves
 pub mod Flats
+pub mod Wakings
+pub mod Ends
 pub mod Runs
 pub mod Layings
 pub mod Clocks
+pub mod Feeds

@@ -1,5 +1,5 @@
 -- Flat runs of a life.
-use Rattle.std.specs.Prelude.{◌≡◌, ℕ, ◌≤◌, min, Bool, List, length, take, Some, slice_get}
+use Rattle.std.specs.Prelude.{◌≡◌, ℕ, ◌≤◌, min, Bool, true, List, length, take, Some, slice_get}
 use Rattle.lid_clock.specs.declared.actor.ClockActor.{ClockActor}
 use Rattle.lid_clock.specs.declared.stream.ClockStream.{ClockStream}
 use Rattle.lid_clock.specs.Ran.{Ran}
@@ -10,6 +10,7 @@ use Rattle.lid_clock_flat.specs.declared.run.FlatRun.{FlatRun}
 use Rattle.lid_clock_flat.specs.declared.stations.FlatStations.{FlatStations}
 use Rattle.lid_clock_flat.specs.Layings.{AreMoversOf}
 use Rattle.lid_clock_flat.specs.Flats.{AreFlat, AreMovers, AreNodesAt}
+use Rattle.lid_clock_flat.specs.Wakings.{AreUnset, AreAsleep}
 
 -- a run after k cycles and g given rows of a life
 pub record FlatRan (l : Life) (k g : ℕ) (x : FlatRun) : Type 0 where
@@ -21,6 +22,8 @@ pub record FlatRan (l : Life) (k g : ℕ) (x : FlatRun) : Type 0 where
   pub all_movers : AreMovers l k x.movers.items
   pub all_stations : AreFlat l k x.stations.all.items x.stations.places.items
   pub flags : length x.went.items ≡ actors_of l
+  pub unset : AreUnset 0 x.went.items
+  pub asleep : AreAsleep l k x.nodes.items x.awake.items
   pub latest : (a : ClockActor) → slice_get x.nodes.items (sink l) ≡ Some a → IsLatest l k a
 
 -- a run that can be given a row: it is one of a life in which a row of this width is wanting
@@ -41,5 +44,8 @@ pub record IsFlatRunOf (actors : List ClockActor) (stations : FlatStations) (cou
   pub movers : AreMoversOf count (length actors) actors x.movers.items
   pub stations_are : x.stations ≡ stations
   pub flags : length x.went.items ≡ length actors
+  pub unset : AreUnset 0 x.went.items
+  pub looked : length x.awake.items ≡ length actors
+  pub all : (v : ℕ) (w : Bool) → slice_get x.awake.items v ≡ Some w → w ≡ true
   pub rows_are : x.rows ≡ rows
   pub given_is : x.given ≡ min 1 rows

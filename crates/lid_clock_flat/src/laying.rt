@@ -87,6 +87,7 @@ impl FlatRun {
     {
         let movers = movers_of(alloc, actors.as_slice(), count)?;
         let went = Vec::from_elem(alloc, false, actors.len())?;
+        let awake = Vec::from_elem(alloc, true, actors.len())?;
         let mut nodes = actors;
         nodes.truncate(count);
         Ok(FlatRun {
@@ -94,6 +95,7 @@ impl FlatRun {
             movers,
             stations,
             went,
+            awake,
             rows,
             given: rows.min(1),
         })

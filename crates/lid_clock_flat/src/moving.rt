@@ -1,9 +1,9 @@
 //! The decisions of movers.
 
-ghost use Rattle.std.specs.Prelude.{◌≡◌, ℕ, ◌+◌, ◌<◌, ◌^◌, true, false, length};
+ghost use Rattle.std.specs.Prelude.{◌≡◌, ℕ, ◌+◌, ◌<◌, ◌^◌, true, false};
 ghost use Rattle.lid_clock.specs.Lives.{Life};
 ghost use Rattle.lid_clock_flat.specs.Rings.{RingsAreApart};
-ghost use Rattle.lid_clock_flat.specs.Flats.{MoverBegins, MoverDecided, MoversBegin, MoversDecided};
+ghost use Rattle.lid_clock_flat.specs.Flats.{MoverBegins, MoverDecided};
 ghost use Rattle.lid_clock_flat.specs.Moves.{SeesNoBar, SeesBar, AreBeside, HasMoved};
 
 use crate::mover::FlatMover;
@@ -35,7 +35,7 @@ impl FlatMover {
     }
 
     /// Decides, as a cycle begins, and fires where the mover may. Answers whether it fired.
-    fn decide(&mut self, stations: &mut FlatStations) -> bool
+    pub(crate) fn decide(&mut self, stations: &mut FlatStations) -> bool
         requires { (l : Life) × (k : ℕ) × (v : ℕ) × MoverBegins l k v self.old stations.old }
         ensures { (l : Life) (k v : ℕ) → MoverBegins l k v self.old stations.old → MoverDecided l k v result self.new stations.old stations.new }
     {
@@ -45,20 +45,5 @@ impl FlatMover {
         }
         self.go(stations);
         true
-    }
-}
-
-/// All movers decide. The first of them is the actor of this number.
-pub(crate) fn decide_movers(
-    movers: &mut [FlatMover],
-    stations: &mut FlatStations,
-    went: &mut [bool],
-    first: usize,
-)
-    requires { (l : Life) × (k : ℕ) × MoversBegin l k first movers.old stations.old went.old }
-    ensures { (l : Life) (k : ℕ) → MoversBegin l k first movers.old stations.old went.old → MoversDecided l k (length movers.new) movers.new stations.new went.new }
-{
-    for m in 0..movers.len() {
-        went[first + m] = movers[m].decide(stations);
     }
 }

@@ -55,7 +55,7 @@ fn fire_node(node: &mut ClockActor, stations: &mut FlatStations)
 /// A node decides, as a cycle begins, and fires where it may and is not held. Answers whether it fired.
 pub(crate) fn decide_node(node: &mut ClockActor, stations: &mut FlatStations, held: bool) -> bool
     requires { (l : Life) × (k : ℕ) × (g : ℕ) × (v : ℕ) × NodeBegins l k g v held node.old stations.old }
-    ensures { (l : Life) (k g v : ℕ) → NodeBegins l k g v held node.old stations.old → NodeDecided l k g v result node.new stations.old stations.new }
+    ensures { (l : Life) (k g v : ℕ) → NodeBegins l k g v held node.old stations.old → NodeDecided l k g v held result node.new stations.old stations.new }
 {
     runs_go_by_rules();
     if held || !may_fire(node, stations.all.as_slice()) {

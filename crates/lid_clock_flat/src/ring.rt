@@ -2,7 +2,7 @@
 
 ghost use Rattle.std.specs.Prelude.{◌≡◌, ◌<◌, true, false};
 ghost use Rattle.lid_clock_flat.specs.Rings.{around, place_at, StationSettles};
-ghost use Rattle.lid_clock_flat.specs.Reads.{CanSettle, Settles};
+ghost use Rattle.lid_clock_flat.specs.Ends.{other_end};
 
 use crate::station::FlatStation;
 
@@ -44,6 +44,13 @@ impl FlatStation {
         self.base as usize + wrap(self.head + self.held, self.cap) as usize
     }
 
+    /// Who stands at its other end, where it loses a token at one, or else gains one.
+    pub(crate) fn other_end(&self, loses: bool) -> u32
+        ensures { result ≡ other_end loses self.now }
+    {
+        if loses { self.filler } else { self.drainer }
+    }
+
     /// Gains the token in its free place, where its filler fired, and loses its oldest one, where its drainer
     /// did.
     pub(crate) fn settle(&mut self, gains: bool, loses: bool)
@@ -58,15 +65,5 @@ impl FlatStation {
         if gains {
             self.held += 1;
         }
-    }
-
-    /// Settles, where these actors fired.
-    pub(crate) fn settle_by(&mut self, went: &[bool])
-        requires { CanSettle went.now self.old }
-        ensures { Settles went.now self.old self.new }
-    {
-        let gains = went[self.filler as usize];
-        let loses = went[self.drainer as usize];
-        self.settle(gains, loses);
     }
 }

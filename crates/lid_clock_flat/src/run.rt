@@ -12,8 +12,10 @@ pub struct FlatRun {
     /// The movers, in the order of their numbers, after the nodes.
     pub(crate) movers: Vec<FlatMover>,
     pub(crate) stations: FlatStations,
-    /// Which actors fired in the last cycle.
+    /// Which actors have fired in a cycle and not yet settled their stations: none between cycles.
     pub(crate) went: Vec<bool>,
+    /// Which actors are looked at in a cycle: all but some that may not fire.
+    pub(crate) awake: Vec<bool>,
     pub(crate) rows: u64,
     pub(crate) given: u64,
 }

@@ -7,10 +7,7 @@ ghost use Rattle.lid_clock.specs.Lives.{Life, NeedsRow, IsBelow, IsLast, Holds, 
 ghost use Rattle.lid_clock.specs.Ran.{lent};
 ghost use Rattle.lid_clock_flat.specs.Runs.{FlatRan, CanGive, CanCycle};
 
-use crate::deciding::decide_nodes;
-use crate::moving::decide_movers;
 use crate::run::FlatRun;
-use crate::settling::settle_all;
 use lid_base::Shown;
 use lid_clock::runs_go_by_rules;
 
@@ -65,21 +62,8 @@ impl FlatRun {
             return false;
         }
         runs_go_by_rules();
-        let first = self.nodes.len();
-        decide_nodes(
-            self.nodes.as_mut_slice(),
-            &mut self.stations,
-            self.went.as_mut_slice(),
-            source,
-            sink,
-        );
-        decide_movers(
-            self.movers.as_mut_slice(),
-            &mut self.stations,
-            self.went.as_mut_slice(),
-            first,
-        );
-        settle_all(self.stations.all.as_mut_slice(), self.went.as_slice());
+        self.decide_all(source, sink);
+        self.settle_all();
         true
     }
 

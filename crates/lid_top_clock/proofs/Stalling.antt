@@ -6,47 +6,19 @@ use Rattle.lid_stall_text.specs.declared.stalls.Stall.{Stall}
 use Rattle.lid_stall_text.specs.Holds.{listed, hold_of, stalled_by, stalled_of, stalled_line, stall_hold}
 use Rattle.lid_stall.specs.Runs.{IsHeldBy, stalled_after}
 use Rattle.lid_stall.proofs.Delays.{stalled_is, few_cycles}
+use Rattle.lid_clock_flat.proofs.Unheld.{unheld, none_stalled}
 use Rattle.lid_base_lines.specs.Texts.{line_text}
 use Rattle.std.specs.Option.{is_some}
 use Rattle.std.specs.Fmt.{decimal}
 use Rattle.std.specs.Prelude.{codes}
 
-either : (b : Bool) → false ≡ cond b false false
-either true = refl
-either false = refl
-
--- no stall holds nobody
-unheld : (sunk k v : ℕ) → false ≡ stall_hold [] sunk k v
-unheld sunk k v = either (v == sunk) ∙ by (v == 0)
-  where
-    by : (b : Bool) → cond (v == sunk) false false ≡ cond b false (cond (v == sunk) false false)
-    by true = sym (either (v == sunk))
-    by false = refl
-
 pub held_by : (l : Life) (stalls : Option (List Stall)) → l.hold ≡ hold_of stalls (sink l) → IsHeldBy l (listed stalls)
 held_by l None held k v = ap (λ hold. hold k v) held ∙ unheld (sink l) k v
 held_by l (Some stalls) held k v = ap (λ hold. hold k v) held
 
-none_stalled : (k : ℕ) → stalled_by [] k ≡ 0
-unfolding held_below
-none_stalled zero = refl
-none_stalled (suc k) = omega (arith, none_stalled k)
-
 pub stalled_listed : (stalls : Option (List Stall)) (k : ℕ) → stalled_by (listed stalls) k ≡ stalled_of stalls k
 stalled_listed None k = none_stalled k
 stalled_listed (Some stalls) k = refl
-
--- a life in which nobody is held is held by no stall
-free_by : (l : Life) → ((j : ℕ) → HoldsNobody l j) → IsHeldBy l []
-free_by l nobody k v = nobody k v ∙ unheld (sink l) k v
-
--- so no cycle of it is stalled
-pub free_stalled : (l : Life) → IsLife l → ((j : ℕ) → HoldsNobody l j) → (k : ℕ) → 0 ≡ stalled_after l k
-free_stalled l rules nobody k = sym (stalled_is l rules [] (free_by l nobody) k ∙ none_stalled k)
-
--- and its cycles can be counted
-pub free_few : (l : Life) → IsLife l → ((j : ℕ) → HoldsNobody l j) → (k : ℕ) → IsBelow l k → k + 1 < 2 ^ 64
-free_few l rules nobody k below = omega (arith, few_cycles l rules [] (free_by l nobody) k below, free_stalled l rules nobody k)
 
 pub line_told : (stalls : Option (List Stall)) (b : Bool) → b ≡ is_some stalls → b ≡ true → (k : ℕ) → line_text (codes "stalled" ∷ decimal (stalled_of stalls k) ∷ []) ≡ stalled_line stalls k
 line_told None b told is k = absurd (let e : true ≡ false = sym is ∙ told in cc)

@@ -1,38 +1,84 @@
-//! Clocked runs in which nobody is held, or that stalls hold.
+//! Clocked runs that workers make, or that are laid flat.
 
-ghost use Rattle.std.specs.Prelude.{◌≡◌, ◌↔◌, ℕ, suc, ◌+◌, ◌^◌, ◌<◌, true, Some, slice_get};
+ghost use Rattle.std.specs.Prelude.{◌≡◌, ◌↔◌, ℕ, suc, ◌+◌, ◌^◌, ◌<◌, min, true, Some, slice_get, IfOk};
 ghost use Rattle.lid_stations.specs.Placements.{links_of, station_count};
 ghost use Rattle.lid_stations.specs.Stations.{actor_count};
-ghost use Rattle.lid_clock.specs.Lives.{Life, NeedsRow, IsBelow, IsLast, sink, fired_after, shown_after};
+ghost use Rattle.lid_clock.specs.Lives.{Life, StartsSo, NeedsRow, IsBelow, IsLast, HoldsNobody, sink, fired_after, shown_after};
 ghost use Rattle.lid_shell_laws.specs.Setups.{IsInputRow};
-ghost use Rattle.lid_clock.specs.Ran.{Ran, lent};
+ghost use Rattle.lid_clock.specs.Ran.{lent, IsFirstRow};
 ghost use Rattle.lid_stall_text.specs.Holds.{Ascend, listed, hold_of};
-ghost use Rattle.lid_stall.specs.Runs.{stalled_after};
-ghost use Rattle.lid_top_clock.specs.Courses.{RanBy};
+ghost use Rattle.lid_stall.specs.Runs.{IsHeldBy, stalled_after};
+ghost use Rattle.lid_top_clock.specs.Courses.{IsSoundTask, RanBy};
 
+use crate::task::Task;
 use crate::workers::Workers;
 use lid_base::{Gate, Items, Shown};
 use lid_clock::ClockStream;
-use lid_stall::{Held, Stall};
+use lid_clock_flat::FlatClock;
+use lid_parclock::cycle_on;
+use lid_stall::Stall;
+use std::alloc::{AllocError, Global};
 use std::thread::Threads;
 
-/// A clocked run in which nobody is held, or one that stalls hold.
+/// A clocked run whose cycles workers make, and in which nobody is held, or one that is laid flat, which stalls hold
+/// or nobody.
 #[derive(Drop)]
 pub(crate) enum Course {
-    Free(ClockStream),
-    Stalled(Held),
+    Worked(ClockStream),
+    Flat(FlatClock),
 }
 
 impl Course {
-    /// A run that these stalls hold, where some are given; their cycles ascend. The stream has made no
-    /// cycle.
-    pub(crate) fn start(stream: ClockStream, stalls: Option<Items<Stall>>) -> Course
-        requires { Ascend (listed stalls) }
-        ensures { (l : Life) (g : ℕ) → Ran l 0 g stream → l.hold ≡ hold_of stalls (sink l) → RanBy l 0 g result }
+    /// A run in which nobody is held, for workers.
+    fn worked(alloc: Global, task: &Task<'_>, first: Option<&[bool]>) -> Result<Course, AllocError>
+        requires sound { IsSoundTask task.now }
+        requires first { IsFirstRow task.now.system.now task.now.rows (lent first) }
+        ensures { IfOk result (λ course. (l : Life) → StartsSo l task.now.system.now task.now.placement.now task.now.rows (lent first.entry)
+            → ((k : ℕ) → HoldsNobody l k) → RanBy l 0 (min 1 task.now.rows) course) }
+    {
+        let stream = ClockStream::start(alloc, task.system, task.placement, task.rows, first)?;
+        Ok(Course::Worked(stream))
+    }
+
+    /// A run that is laid flat, and that these stalls hold, whose cycles ascend.
+    fn flat(
+        alloc: Global,
+        task: &Task<'_>,
+        first: Option<&[bool]>,
+        stalls: Items<Stall>,
+    ) -> Result<Course, AllocError>
+        requires sound { IsSoundTask task.now }
+        requires first { IsFirstRow task.now.system.now task.now.rows (lent first) }
+        requires ascend { Ascend stalls }
+        ensures { IfOk result (λ course. (l : Life) → StartsSo l task.now.system.now task.now.placement.now task.now.rows (lent first.entry)
+            → IsHeldBy l stalls → RanBy l 0 (min 1 task.now.rows) course) }
+    {
+        let clock = FlatClock::start(alloc, task.system, task.placement, task.rows, first, stalls)?;
+        Ok(Course::Flat(clock))
+    }
+
+    /// Starts the run of a task, of which the first row is given, where there are rows. It has the width of the
+    /// source. So many workers make its cycles, or stalls hold it, where some are given; their cycles ascend.
+    ///
+    /// # Errors
+    /// Where there is no memory.
+    pub(crate) fn start(
+        alloc: Global,
+        task: &Task<'_>,
+        first: Option<&[bool]>,
+        stalls: Option<Items<Stall>>,
+        workers: u32,
+    ) -> Result<Course, AllocError>
+        requires sound { IsSoundTask task.now }
+        requires first { IsFirstRow task.now.system.now task.now.rows (lent first) }
+        requires ascend { Ascend (listed stalls) }
+        ensures { IfOk result (λ course. (l : Life) → StartsSo l task.now.system.now task.now.placement.now task.now.rows (lent first.entry)
+            → l.hold ≡ hold_of stalls (sink l) → RanBy l 0 (min 1 task.now.rows) course) }
     {
         match stalls {
-            Some(stalls) => Course::Stalled(Held::start(stream, stalls)),
-            None => Course::Free(stream),
+            Some(stalls) => Course::flat(alloc, task, first, stalls),
+            None if 1 < workers => Course::worked(alloc, task, first),
+            None => Course::flat(alloc, task, first, Items::from_vec(Vec::new(alloc))),
         }
     }
 
@@ -41,8 +87,8 @@ impl Course {
         ensures { (l : Life) (k g : ℕ) → RanBy l k g self.now → (result ≡ true) ↔ NeedsRow l k g }
     {
         match self {
-            Course::Free(stream) => stream.needs(),
-            Course::Stalled(held) => held.needs(),
+            Course::Worked(stream) => stream.needs(),
+            Course::Flat(clock) => clock.needs(),
         }
     }
 
@@ -52,8 +98,8 @@ impl Course {
         ensures { (l : Life) (k g : ℕ) → RanBy l k g self.old → slice_get l.setup.input g ≡ Some row.now → RanBy l k (g + 1) self.new }
     {
         match self {
-            Course::Free(stream) => stream.give(row),
-            Course::Stalled(held) => held.give(row),
+            Course::Worked(stream) => stream.give(row),
+            Course::Flat(clock) => clock.give(row),
         }
     }
 
@@ -62,8 +108,8 @@ impl Course {
         ensures { (l : Life) (k g : ℕ) → RanBy l k g self.now → (result ≡ true) ↔ IsBelow l k }
     {
         match self {
-            Course::Free(stream) => stream.below(),
-            Course::Stalled(held) => held.below(),
+            Course::Worked(stream) => stream.below(),
+            Course::Flat(clock) => clock.below(),
         }
     }
 
@@ -81,8 +127,14 @@ impl Course {
         ensures counts { (l : Life) (k g : ℕ) → RanBy l k g self.old → result ≡ true → k + 1 < 2 ^ 64 }
     {
         match self {
-            Course::Free(stream) => workers.cycle(stream, number),
-            Course::Stalled(held) => held.cycle(),
+            Course::Worked(stream) => cycle_on(
+                workers.rt,
+                stream,
+                workers.many,
+                number,
+                workers.gate,
+            ),
+            Course::Flat(clock) => clock.cycle(),
         }
     }
 
@@ -91,8 +143,8 @@ impl Course {
         ensures { (l : Life) (k g : ℕ) → RanBy l k g self.now → IsLast l k (lent result) }
     {
         match self {
-            Course::Free(stream) => stream.last(),
-            Course::Stalled(held) => held.last(),
+            Course::Worked(stream) => stream.last(),
+            Course::Flat(clock) => clock.last(),
         }
     }
 
@@ -102,8 +154,8 @@ impl Course {
         ensures { (l : Life) (k g : ℕ) → RanBy l k g self.now → result ≡ shown_after l k station }
     {
         match self {
-            Course::Free(stream) => stream.show(station),
-            Course::Stalled(held) => held.show(station),
+            Course::Worked(stream) => stream.show(station),
+            Course::Flat(clock) => clock.show(station),
         }
     }
 
@@ -113,8 +165,8 @@ impl Course {
         ensures { (l : Life) (k g : ℕ) → RanBy l k g self.now → result ≡ fired_after l k actor }
     {
         match self {
-            Course::Free(stream) => stream.fired(actor),
-            Course::Stalled(held) => held.fired(actor),
+            Course::Worked(stream) => stream.fired(actor),
+            Course::Flat(clock) => clock.fired(actor),
         }
     }
 
@@ -123,8 +175,8 @@ impl Course {
         ensures { (l : Life) (k g : ℕ) → RanBy l k g self.now → result ≡ stalled_after l k }
     {
         match self {
-            Course::Free(_) => 0,
-            Course::Stalled(held) => held.stalled(),
+            Course::Worked(_) => 0,
+            Course::Flat(clock) => clock.stalled(),
         }
     }
 }

@@ -21,7 +21,6 @@ use crate::task::Task;
 use crate::workers::Workers;
 use lid_base::{Gate, Items, Shelf, Shown};
 use lid_base_lines::append_number_line;
-use lid_clock::ClockStream;
 use lid_stall::Stall;
 use lid_texts::{Trace, print_cycles, print_trace};
 use lid_texts_feed::RowFeed;
@@ -94,12 +93,13 @@ fn firings(alloc: Global, stream: &Course, nodes: u32) -> Result<Vec<u64>, Alloc
 }
 
 impl Running {
-    /// A run of a system with its stations over so many rows, of which the first is this.
+    /// A run of a system with its stations over so many rows, of which the first is this, for so many workers.
     fn begin(
         alloc: Global,
         task: &Task<'_>,
         first: Option<&[bool]>,
         stalls: Option<Items<Stall>>,
+        workers: u32,
     ) -> Result<Running, RunFault>
         requires system { IsWellFormed task.now.system.now }
         requires fits { Fits task.now.system.now task.now.placement.now }
@@ -109,14 +109,13 @@ impl Running {
         ensures begun { IfOk result (HasBegun task.now.system.now task.now.placement.now task.now.rows (lent first.entry) task.now.trace stalls) }
         ensures cause { IfErr result (λ fault. fault ≡ RunFault.Memory) }
     {
-        let Ok(stream) = ClockStream::start(alloc, task.system, task.placement, task.rows, first)
-        else {
+        let told = stalls.is_some();
+        let Ok(stream) = Course::start(alloc, task, first, stalls, workers) else {
             return Err(RunFault::Memory);
         };
-        let told = stalls.is_some();
         Ok(Running {
             alloc,
-            stream: Course::start(stream, stalls),
+            stream,
             made: 0,
             given: task.rows.min(1),
             stations: task.placement.caps.len() as u32,
@@ -133,6 +132,7 @@ impl Running {
         task: &Task<'_>,
         feed: &mut RowFeed,
         stalls: Option<Items<Stall>>,
+        workers: u32,
     ) -> Result<Running, RunFault>
         requires system { IsWellFormed task.now.system.now }
         requires fits { Fits task.now.system.now task.now.placement.now }
@@ -152,13 +152,13 @@ impl Running {
         ensures grows { (q : List ℕ) → S.faults shelf.old q ≤ S.faults shelf.new q }
     {
         if task.rows == 0 {
-            return Running::begin(alloc, task, None, stalls);
+            return Running::begin(alloc, task, None, stalls, workers);
         }
         let row = match next_row(shelf, feed, 0) {
             Ok(row) => row,
             Err(fault) => return Err(fault),
         };
-        Running::begin(alloc, task, Some(row.as_slice()), stalls)
+        Running::begin(alloc, task, Some(row.as_slice()), stalls, workers)
     }
 
     /// Fetches and gives the next row, where it is needed.

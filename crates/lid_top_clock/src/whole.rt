@@ -99,7 +99,7 @@ pub fn run<S: Shelf, O: Sink, R: Threads + AllocGlobal + Sync, G: Gate>(
     ensures rises { O.faults out.old ≤ O.faults out.new }
 {
     let alloc = workers.rt.alloc();
-    let mut run = match Running::start(alloc, shelf, task, feed, stalls) {
+    let mut run = match Running::start(alloc, shelf, task, feed, stalls, workers.many) {
         Ok(run) => run,
         Err(fault) => return Err(fault),
     };

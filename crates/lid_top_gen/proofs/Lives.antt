@@ -27,7 +27,7 @@ use Rattle.lid_stations.specs.Placements.{links_of, Fits}
 use Rattle.lid_stations.specs.Markings.{marking}
 use Rattle.lid_shell_laws.specs.Runs.{cap_of, sink_of}
 use Rattle.lid_shell_laws.proofs.Caps.{cap_of_sink}
-use Rattle.lid_clock.specs.Lives.{Life, sink}
+use Rattle.lid_clock.specs.Lives.{Life}
 use Rattle.lid_shell_laws.specs.Setups.{IsInputRow}
 use Rattle.lid_clock.specs.Clocks.{IsFreeLife}
 use Rattle.lid_top_script.specs.Generated.{ones_of}

@@ -1,5 +1,5 @@
 -- The part of a certificate that a transition stands in.
-use Rattle.std.proofs.Common.{◌≡◌, ℕ, ◌<◌, true, false, true≢false, length, sym, ◌∙◌, ap}
+use Rattle.std.proofs.Common.{◌≡◌, ℕ, ◌<◌, false, true≢false, length, sym, ◌∙◌, ap}
 use Rattle.lid_graph.specs.declared.graph.Graph.{Graph}
 use Rattle.lid_graph.specs.Walks.{IsPaired}
 use Rattle.lid_cert.specs.declared.cert.Part.{Part}

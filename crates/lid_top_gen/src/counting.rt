@@ -1,7 +1,7 @@
 //! The clocked run, counted.
 
 ghost use Rattle.std.specs.Prelude.{◌≡◌, ◌≤◌, ℕ, if◌then◌else◌, length, IfOk};
-ghost use Rattle.std.specs.List.{All, AllByRecursion, sum_by};
+ghost use Rattle.std.specs.List.{AllByRecursion, sum_by};
 ghost use Rattle.lid_shell_laws.specs.Setups.{IsInputRow};
 ghost use Rattle.lid_design.specs.Network.{Table};
 ghost use Rattle.lid_top_gen.specs.Counts.{HasLife, AreRunCounts};
@@ -9,7 +9,7 @@ ghost use Rattle.lid_stations.specs.Placements.{Fits};
 ghost use Rattle.lid_system.specs.Streams.{output_row};
 ghost use Rattle.lid_system.specs.Systems.{Point, IsWellFormed};
 
-use lid_clock::Clocked;
+use lid_clock_flat::FlatRows;
 use lid_stations::Placement;
 use lid_system::System;
 use lid_texts::Rows;
@@ -38,19 +38,6 @@ fn row_ones(row: &[bool]) -> u64
     ones
 }
 
-/// How many bits of at most 1,000,000 rows of at most 4 bits are 1.
-fn count_ones(rows: &[Vec<bool>]) -> u64
-    requires few { length rows.now ≤ 1000000 }
-    requires narrow { All (λ row. length row.items ≤ 4) rows.now }
-    ensures { result ≡ sum_by (λ row. sum_by (λ bit. if bit then 1 else 0) row.items) rows.now }
-{
-    let mut ones = 0;
-    for row in rows {
-        ones += row_ones(row);
-    }
-    ones
-}
-
 /// Runs a system with its stations clock by clock, and counts.
 pub(crate) fn count_run(
     alloc: Global,
@@ -66,10 +53,14 @@ pub(crate) fn count_run(
     requires lives { HasLife system.now placement.now rows.now.bits }
     ensures { IfOk result (λ count. AreRunCounts system.now placement.now rows.now.bits count.cycles count.ones) }
 {
-    let mut run = Clocked::start(alloc, system, placement, rows)?;
-    let cycles = run.run();
-    Ok(Count {
-        cycles,
-        ones: count_ones(run.rows()),
-    })
+    let mut run = FlatRows::start(alloc, system, placement, rows)?;
+    let mut cycles = 0;
+    let mut ones = 0;
+    while run.cycle() {
+        cycles += 1;
+        if let Some(row) = run.last() {
+            ones += row_ones(row);
+        }
+    }
+    Ok(Count { cycles, ones })
 }

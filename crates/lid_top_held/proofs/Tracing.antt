@@ -4,15 +4,15 @@ use Rattle.std.proofs.lemmas.Bool.{cases_lt}
 use Rattle.lid_base.specs.declared.runs.Shown.{Shown}
 use Rattle.lid_stations.specs.Placements.{station_count}
 use Rattle.lid_clock.specs.Lives.{Life, IsBelow}
-use Rattle.lid_clock.specs.declared.clocked.Clocked.{Clocked}
-use Rattle.lid_clock.specs.Clocks.{Clocks}
+use Rattle.lid_clock_flat.specs.declared.rows.FlatRows.{FlatRows}
+use Rattle.lid_clock_flat.specs.Feeds.{Feeds}
 use Rattle.lid_top_held.specs.Traces.{life_cells, HasTraced, IsTraceOf}
 use Rattle.lid_top_held.proofs.Cells.{cells_one_more}
 
-module _ (l : Life) (k : ℕ) (now : Clocked) (cells : List Shown) (has : HasTraced l k now cells) where
-  pub traced_more : (next : Clocked) (more : List Shown) → Clocks l (suc k) next → IsBelow l k → more ≡ cells ++ life_cells l k → HasTraced l (k + 1) next more
+module _ (l : Life) (k : ℕ) (now : FlatRows) (cells : List Shown) (has : HasTraced l k now cells) where
+  pub traced_more : (next : FlatRows) (more : List Shown) → Feeds l (suc k) next → IsBelow l k → more ≡ cells ++ life_cells l k → HasTraced l (k + 1) next more
   traced_more next more ran below is = record {
-    ran = subst (λ (n : ℕ). Clocks l n next) (sym (add-one k)) ran;
+    ran = subst (λ (n : ℕ). Feeds l n next) (sym (add-one k)) ran;
     needed = λ j less. by_order j less (cases_lt j k);
     shown = is ∙ ap (λ (xs : List Shown). xs ++ life_cells l k) has.shown ∙ sym (cells_one_more l k);
   }

@@ -6,8 +6,9 @@ use Rattle.lid_base.specs.Each.{from_each}
 use Rattle.lid_stations.specs.Placements.{station_count}
 use Rattle.lid_texts_runs.specs.declared.trace.Trace.{Trace}
 use Rattle.lid_clock.specs.Lives.{Life, IsBelow, shown_after}
-use Rattle.lid_clock.specs.declared.clocked.Clocked.{Clocked}
-use Rattle.lid_clock.specs.Clocks.{Clocks, IsFreeLife}
+use Rattle.lid_clock.specs.Clocks.{IsFreeLife}
+use Rattle.lid_clock_flat.specs.declared.rows.FlatRows.{FlatRows}
+use Rattle.lid_clock_flat.specs.Feeds.{Feeds}
 use Rattle.lid_top_script.specs.Wrapped.{Wrapping}
 
 -- a life in which nobody is held, of a system with its stations for these rows
@@ -27,14 +28,14 @@ abbrev pub cells_before : Life → ℕ → List Shown
 cells_before l k = flat_map (life_cells l) (from_each (λ j. j) 0 k)
 
 -- a run of k cycles, each of which was needed, and what the stations showed in them
-pub record HasTraced (l : Life) (k : ℕ) (c : Clocked) (cells : List Shown) : Type 0 where
-  pub ran : Clocks l k c
+pub record HasTraced (l : Life) (k : ℕ) (c : FlatRows) (cells : List Shown) : Type 0 where
+  pub ran : Feeds l k c
   pub needed : (j : ℕ) → j < k → IsBelow l j
   pub shown : cells ≡ cells_before l k
 
 -- a run that begins, and how many stations it has
-pub record TraceBegins (l : Life) (stations : ℕ) (c : Clocked) : Type 0 where
-  pub ran : Clocks l 0 c
+pub record TraceBegins (l : Life) (stations : ℕ) (c : FlatRows) : Type 0 where
+  pub ran : Feeds l 0 c
   pub all : stations ≡ station_count l.setup.placement.relays
 
 -- the trace of a run, of so many cycles or as far as the run has them: all cycles before the last one are needed,

@@ -2,7 +2,7 @@
 
 ghost use Rattle.std.specs.Prelude.{◌≡◌, ◌↔◌, ◌*◌, ◌≤◌, ◌++◌, ℕ, suc, true, false, OnOk, IfOk};
 ghost use Rattle.lid_clock.specs.Lives.{Life, IsBelow};
-ghost use Rattle.lid_clock.specs.Clocks.{Clocks};
+ghost use Rattle.lid_clock_flat.specs.Feeds.{Feeds};
 ghost use Rattle.lid_top_script.specs.Waved.{IsWaveText};
 ghost use Rattle.lid_stations.specs.Placements.{links_of, station_count};
 ghost use Rattle.lid_vcd_form.specs.Text.{wave_text};
@@ -11,15 +11,15 @@ ghost use Rattle.lid_top_held.specs.Traces.{TraceBegins, IsTraceOf, HasFreeLife,
 
 use crate::run::Fed;
 use lid_base::{Items, Shown};
-use lid_clock::Clocked;
+use lid_clock_flat::FlatRows;
 use lid_texts::Trace;
 use lid_vcd::write;
 use std::alloc::{AllocError, Global};
 
 /// Appends what each station shows.
-fn push_cells(run: &Clocked, stations: u32, cells: &mut Vec<Shown>) -> Result<(), AllocError>
-    requires { (l : Life) × (k : ℕ) × Clocks l k run.now × (stations ≡ station_count l.setup.placement.relays) }
-    ensures { (l : Life) (k : ℕ) → Clocks l k run.now → stations ≡ station_count l.setup.placement.relays
+fn push_cells(run: &FlatRows, stations: u32, cells: &mut Vec<Shown>) -> Result<(), AllocError>
+    requires { (l : Life) × (k : ℕ) × Feeds l k run.now × (stations ≡ station_count l.setup.placement.relays) }
+    ensures { (l : Life) (k : ℕ) → Feeds l k run.now → stations ≡ station_count l.setup.placement.relays
         → OnOk result (cells.new.items ≡ cells.old.items ++ life_cells l k) }
 {
     for station in 0..stations {
@@ -30,13 +30,17 @@ fn push_cells(run: &Clocked, stations: u32, cells: &mut Vec<Shown>) -> Result<()
 
 /// Makes a cycle, where the sink has not yet fired for each row, and appends what each station showed as it
 /// began. Answers whether it made one.
-fn trace_cycle(run: &mut Clocked, stations: u32, cells: &mut Vec<Shown>) -> Result<bool, AllocError>
-    requires { (l : Life) × (k : ℕ) × Clocks l k run.old × (stations ≡ station_count l.setup.placement.relays) }
-    ensures made { (l : Life) (k : ℕ) → Clocks l k run.old → IfOk result (λ made. made ≡ true → Clocks l (suc k) run.new) }
-    ensures shown { (l : Life) (k : ℕ) → Clocks l k run.old → stations ≡ station_count l.setup.placement.relays
+fn trace_cycle(
+    run: &mut FlatRows,
+    stations: u32,
+    cells: &mut Vec<Shown>,
+) -> Result<bool, AllocError>
+    requires { (l : Life) × (k : ℕ) × Feeds l k run.old × (stations ≡ station_count l.setup.placement.relays) }
+    ensures made { (l : Life) (k : ℕ) → Feeds l k run.old → IfOk result (λ made. made ≡ true → Feeds l (suc k) run.new) }
+    ensures shown { (l : Life) (k : ℕ) → Feeds l k run.old → stations ≡ station_count l.setup.placement.relays
         → IfOk result (λ made. made ≡ true → cells.new.items ≡ cells.old.items ++ life_cells l k) }
     ensures still { IfOk result (λ made. made ≡ false → cells.new.items ≡ cells.old.items) }
-    ensures below { (l : Life) (k : ℕ) → Clocks l k run.old → IfOk result (λ made. (made ≡ true) ↔ IsBelow l k) }
+    ensures below { (l : Life) (k : ℕ) → Feeds l k run.old → IfOk result (λ made. (made ≡ true) ↔ IsBelow l k) }
 {
     if !run.ready() {
         return Ok(false);
@@ -48,7 +52,7 @@ fn trace_cycle(run: &mut Clocked, stations: u32, cells: &mut Vec<Shown>) -> Resu
 /// The trace of a run that begins, of at most so many cycles.
 fn trace_run(
     alloc: Global,
-    run: &mut Clocked,
+    run: &mut FlatRows,
     stations: u32,
     cycles: u64,
 ) -> Result<Trace, AllocError>
@@ -76,7 +80,7 @@ fn trace_of(alloc: Global, fed: &Fed<'_>, cycles: u64) -> Result<Trace, AllocErr
     ensures { IfOk result (IsTraceOfAll fed.now.wrapped.now fed.now.rows.now.bits cycles) }
 {
     let wrapped = fed.wrapped;
-    let mut run = Clocked::start(alloc, &wrapped.system, &wrapped.placement, fed.rows)?;
+    let mut run = FlatRows::start(alloc, &wrapped.system, &wrapped.placement, fed.rows)?;
     trace_run(alloc, &mut run, wrapped.placement.caps.len() as u32, cycles)
 }
 

@@ -27,7 +27,7 @@ returns-then-held c = λ l k g v begins.
           inr (may_not_fire l k s.all.items s.places.items begins.beside g v c.args.node.now begins.actor
           (subst (λ (xs : List FlatStation). SeesBar c.args.node.now xs) w.as_slice.ensures.value (w.may_fire.ensures.no w.if-not-may_fire.true)))
     ] in
-    subst (λ (a : ClockActor). NodeDecided l k g v false a s s) (sym c.rest.ensures) (node_rested c.runs_go_by_rules.ensures l k g v c.args.held c.args.node.now s begins why)
+    subst (λ (a : ClockActor). NodeDecided l k g v c.args.held false a s s) (sym c.rest.ensures) (node_rested c.runs_go_by_rules.ensures l k g v c.args.held c.args.node.now s begins why)
 
 pub fire_node-requires-clause-there : goal.fire_node-requires-clause-there
 fire_node-requires-clause-there c =

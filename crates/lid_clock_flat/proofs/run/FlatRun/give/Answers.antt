@@ -34,4 +34,4 @@ returns c = λ l k g ran next.
     let rest = subst (λ (y : ClockActor). c.receive.new.self ≡ record y { part = c.receive.new.self.part }) (sym c.index-nodes-0.is) c.receive.ensures.rest in
     let many : length (set c.as_mut_slice-nodes.result.now 0 c.receive.new.self) ≡ x.nodes.len = length-set c.as_mut_slice-nodes.result.now 0 c.receive.new.self ∙ c.as_mut_slice-nodes.ensures.len in
     let items = with_items_is x.nodes (set c.as_mut_slice-nodes.result.now 0 c.receive.new.self) many ∙ ap (λ (xs : List ClockActor). set xs 0 c.receive.new.self) c.as_mut_slice-nodes.ensures.value in
-    gave l k g x _ a c.receive.new.self c.args.row.now ran (needs_too q.0 l q.1 q.2 k g x q.3 ran q.4) next there can takes rest items refl refl refl refl refl
+    gave l k g x _ a c.receive.new.self c.args.row.now ran (needs_too q.0 l q.1 q.2 k g x q.3 ran q.4) next there can takes rest items refl refl refl refl refl refl

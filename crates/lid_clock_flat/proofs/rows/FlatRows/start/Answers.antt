@@ -1,0 +1,27 @@
+-- It begins with the first row, and nobody is held.
+use Rattle.std.proofs.Common.{◌≡◌, ℕ, min, List, Bool, length, sym, ◌∙◌, ap, subst, arith}
+use Rattle.std.specs.Prelude.{option_map, slice_get}
+use Rattle.lid_clock.specs.Lives.{StartsSo}
+use Rattle.lid_stall.specs.Runs.{IsHeldBy}
+use Rattle.lid_clock_flat.specs.Clocks.{RanFlat}
+use Rattle.lid_clock_flat.proofs.Unheld.{free_by}
+use Rattle.lid_clock_flat.proofs.rows.FlatRows.start.Goals as goal
+
+one_at_most : (n : ℕ) → min n 1 ≡ min 1 n
+one_at_most n = omega arith
+
+pub returns : goal.returns
+returns c l free of stations =
+    let count = c.len-count.result in
+    let many : length l.setup.input ≡ count = ap length free.input ∙ sym c.len-count.ensures in
+    let starts : StartsSo l c.args.system.now c.args.placement.now count (option_map (λ row. row.now) c.first_of-first.result) = record {
+      rules = free.rules;
+      of = of;
+      stations = stations;
+      many = many;
+      begins = ap (λ (rows : List (List Bool)). slice_get rows 0) free.input ∙ sym c.first_of-first.ensures;
+    } in
+    record {
+      free = free;
+      ran = subst (λ (g : ℕ). RanFlat l 0 g c.in_ok-clock.clock) (sym (c.min.ensures ∙ one_at_most count)) (c.in_ok-clock.ensures l starts (subst (IsHeldBy l) (sym (c.from_vec-none.ensures ∙ c.new.ensures.items)) (free_by l free.nobody)));
+    }

@@ -1,0 +1,124 @@
+//! The flat run over rows that are held at hand, in which nobody is held.
+
+ghost use Rattle.std.specs.Prelude.{◌≡◌, ◌↔◌, ◌<◌, ◌≤◌, ℕ, suc, true, false, length, option_map, slice_get, IfOk};
+ghost use Rattle.std.specs.List.{AllByRecursion};
+ghost use Rattle.lid_system.specs.Systems.{IsWellFormed};
+ghost use Rattle.lid_stations.specs.Placements.{station_count, Fits};
+ghost use Rattle.lid_shell_laws.specs.Setups.{IsInputRow};
+ghost use Rattle.lid_clock.specs.Lives.{Life, NeedsRow, IsBelow, IsLast, shown_after};
+ghost use Rattle.lid_clock.specs.Ran.{lent};
+ghost use Rattle.lid_clock.specs.Clocks.{IsFreeLife, IsOver};
+ghost use Rattle.lid_clock_flat.specs.Feeds.{Feeds, IsFeeding};
+
+use crate::clock::FlatClock;
+use lid_base::{Items, Shown};
+use lid_stations::Placement;
+use lid_system::System;
+use lid_texts::Rows;
+use std::alloc::{AllocError, Global};
+
+/// A flat run over rows that are held at hand, in which nobody is held.
+#[derive(Drop)]
+pub struct FlatRows<'r> {
+    clock: FlatClock,
+    input: &'r Rows,
+    /// How many rows the run was given.
+    given: usize,
+}
+
+/// The first row, where there is one.
+fn first_of(rows: &Rows) -> Option<&[bool]>
+    ensures { option_map (λ row. row.now) result ≡ slice_get rows.now.bits 0 }
+{
+    match rows.bits.as_slice().first() {
+        Some(row) => Some(row.as_slice()),
+        None => None,
+    }
+}
+
+impl<'r> FlatRows<'r> {
+    /// Starts a run of a system with its stations over these rows: at most 1,000,000, each as wide as the
+    /// source.
+    ///
+    /// # Errors
+    /// Want of memory.
+    pub fn start(
+        alloc: Global,
+        system: &System,
+        placement: &Placement,
+        rows: &'r Rows,
+    ) -> Result<FlatRows<'r>, AllocError>
+        requires system { IsWellFormed system.now }
+        requires fits { Fits system.now placement.now }
+        requires few { length rows.now.bits ≤ 1000000 }
+        requires wide { AllByRecursion (IsInputRow system.now) rows.now.bits }
+        ensures { IfOk result (λ x. (l : Life) → IsFreeLife l rows.now.bits → l.setup.system ≡ system.now → l.setup.placement ≡ placement.now → Feeds l 0 x) }
+    {
+        let count = rows.bits.len();
+        let none = Items::from_vec(Vec::new(alloc));
+        let first = first_of(rows);
+        let clock = FlatClock::start(alloc, system, placement, count as u64, first, none)?;
+        Ok(FlatRows {
+            clock,
+            input: rows,
+            given: count.min(1),
+        })
+    }
+
+    /// Gives the run its next row where it needs one.
+    fn feed(&mut self)
+        requires { IsFeeding self.old }
+        ensures { (l : Life) (k : ℕ) → Feeds l k self.old → Feeds l k self.new × ¬ NeedsRow l k self.new.given }
+    {
+        if self.clock.needs() {
+            self.clock
+                .give(self.input.bits.as_slice()[self.given].as_slice());
+            self.given += 1;
+        }
+    }
+
+    /// Whether the sink has not yet fired for each row. It gives the run its next row where it needs one.
+    pub fn ready(&mut self) -> bool
+        requires { IsFeeding self.old }
+        ensures ran { (l : Life) (k : ℕ) → Feeds l k self.old → Feeds l k self.new × ¬ NeedsRow l k self.new.given }
+        ensures below { (l : Life) (k : ℕ) → Feeds l k self.old → (result ≡ true) ↔ IsBelow l k }
+    {
+        self.feed();
+        self.clock.below()
+    }
+
+    /// Makes a cycle where the sink has not yet fired for each row, and answers whether it made one. Where it made
+    /// none, the cycles made are the least after which the sink has fired for each row, and within the bound.
+    pub fn cycle(&mut self) -> bool
+        requires { IsFeeding self.old }
+        ensures made { (l : Life) (k : ℕ) → Feeds l k self.old → result ≡ true → Feeds l (suc k) self.new }
+        ensures still { (l : Life) (k : ℕ) → Feeds l k self.old → result ≡ false → Feeds l k self.new }
+        ensures below { (l : Life) (k : ℕ) → Feeds l k self.old → (result ≡ true) ↔ IsBelow l k }
+        ensures over { (l : Life) (k : ℕ) → Feeds l k self.old → result ≡ false → IsOver l k }
+    {
+        self.feed();
+        self.clock.cycle()
+    }
+
+    /// How many cycles were made since the start.
+    pub fn made(&self) -> u64
+        ensures { (l : Life) (k : ℕ) → Feeds l k self.now → result ≡ k }
+    {
+        self.clock.made()
+    }
+
+    /// The output row of the last cycle made, where the sink fired in it.
+    pub fn last(&self) -> Option<&[bool]>
+        ensures { (l : Life) (k : ℕ) → Feeds l k self.now → IsLast l k (lent result) }
+    {
+        self.clock.last()
+    }
+
+    /// What a station shows as the next cycle begins. The station exists.
+    pub fn show(&self, station: u32) -> Shown
+        requires { (l : Life) × (k : ℕ) × Feeds l k self.now × (station < station_count l.setup.placement.relays) }
+        ensures { (l : Life) (k : ℕ) → Feeds l k self.now → result ≡ shown_after l k station }
+    {
+        self.clock.show(station)
+    }
+}
