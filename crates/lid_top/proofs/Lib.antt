@@ -3,3 +3,4 @@ pub mod Pieces
 pub mod Runs
 pub mod Clocked
 pub mod Verified
+pub mod Fetched

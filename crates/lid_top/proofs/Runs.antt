@@ -1,5 +1,6 @@
 -- What a run shows, by how it ended.
-use Rattle.std.proofs.Common.{◌≡◌, ℕ, ◌≤◌, List, Option, Some, None, Result, Ok, Err, OnOk, IfErr, is_some, true≢false, inl, inr, refl, sym, ap, subst, arith}
+use Rattle.std.proofs.Common.{◌≡◌, ℕ, ◌≤◌, Bool, true, false, List, [], Option, Some, None, Result, Ok, Err, OnOk, IfErr, IfSome, is_some, true≢false, inl, inr, refl, sym, ap, subst, arith}
+use Rattle.lid_base.specs.declared.outside.Fetch.{Fetch}
 use Rattle.lid_base.specs.Outside.{Rose}
 use Rattle.lid_top_words.specs.declared.job.Job.{Job}
 use Rattle.lid_top_script.specs.declared.fault.Stop.TheVariants.{Refused, Read, Memory, Denied}
@@ -8,7 +9,10 @@ use Rattle.lid_top_script.specs.declared.fault.JobEnd.TheVariants.{Stopped, Unwr
 use Rattle.lid_top_refusals.specs.Faults.{write_line, memory_line, denied_line}
 use Rattle.lid_top_script.specs.Scripts.{refuses, denies, gives, script_of}
 use Rattle.lid_top_refusals.specs.Refusals.{refusal_line}
-use Rattle.lid_top_script.specs.Causes.{IsJobEnd, IsStoppedJob, IsRefusedJob, end_status, end_line}
+use Rattle.lid_top_script.specs.Causes.{IsJobEnd, IsStoppedJob, IsRefusedJob, end_status, job_status, end_line}
+use Rattle.lid_top_script.specs.Fetches.{between, FetchesJob}
+use Rattle.lid_base_io.proofs.Came.{none_came}
+use Rattle.lid_top_script.proofs.Going.{goes_wanting}
 use Rattle.lid_top_refusals.specs.Saying.{Says}
 use Rattle.lid_top_script.specs.Statuses.{Writes, WritesPrefix, TellsAll, Leaves, writes_early, JobRun, Run}
 
@@ -50,10 +54,50 @@ denied_told (Stopped Memory) e = absurd (omega (arith, e))
 denied_told (Stopped Denied) e = refl
 denied_told Unwritten e = absurd (omega (arith, e))
 
-module _ {S O E : Type 0} (held : S → List ℕ → Option (List ℕ)) (reads : S → List ℕ → ℕ) (written : O → Option (List ℕ)) (writes : O → ℕ) (said : E → Option (List ℕ)) (errs : E → ℕ) where
+module _ {S O E : Type 0} (shelf_whole : Bool) (held : S → List ℕ → Option (List ℕ)) (fetches : S → Option (List Fetch)) (reads : S → List ℕ → ℕ) (written : O → Option (List ℕ)) (writes : O → ℕ) (said : E → Option (List ℕ)) (errs : E → ℕ) where
+  -- the fetches of a job that does not write early
+  abbrev Fetched : Job → S → S → ℕ → Type 0
+  Fetched job s t status = writes_early job ≡ false → FetchesJob shelf_whole (held s) (script_of job) (fetches s) (fetches t) (reads s) (reads t) status
+
+  -- memory was wanting before the words were read
+  pub run_unread : (asked : Option Job) (s : S) (o : O) (e f : E) → Says said errs e f memory_line → Run asked shelf_whole held fetches reads s s written writes o o said errs e f 5
+  run_unread asked s o e f says = record {
+    most = omega arith;
+    usage = λ two. absurd (omega (arith, two));
+    no_job = λ none. (inr refl, refl, refl);
+    ran = by asked;
+    kept = refl;
+    quiet = λ zero. absurd (omega (arith, zero));
+    says_usage = λ two. absurd (omega (arith, two));
+    says_write = λ four. absurd (omega (arith, four));
+    says_memory = λ five. says;
+    says_denied = λ six. absurd (omega (arith, six));
+  }
+    where
+      leaves : (early : Bool) (job : Job) → Leaves early (held s) (script_of job) written o o
+      leaves false job = refl
+      leaves true job = inl refl
+
+      by : (a : Option Job) → IfSome a (λ job. JobRun job shelf_whole held fetches reads s s written writes o o (Says said errs e f) 5)
+      by None = tt
+      by (Some job) = record {
+        done = λ zero. absurd (omega (arith, zero));
+        refused = λ one. absurd (omega (arith, one));
+        read = λ three. absurd (omega (arith, three));
+        write = λ four. absurd (omega (arith, four));
+        denied = λ six. absurd (omega (arith, six));
+        left = λ _ _. leaves (writes_early job) job;
+        unwritten = λ one. absurd (omega (arith, one));
+        complete = λ _ _. inl refl;
+        fetched = λ _. record {
+          came = ([], none_came (fetches s), record { halt = between; goes = goes_wanting shelf_whole (held s) (script_of job) Memory tt; halts = refl });
+          still = λ _ q. refl;
+        };
+      }
+
   -- the output of the job is whole
-  pub run_of_whole : (job : Job) (s t : S) (o p : O) (e : E) → Writes (held s) (script_of job) (written o) (written p) → held t ≡ held s → Run (Some job) held reads s t written writes o p said errs e e 0
-  run_of_whole job s t o p e w kept = record {
+  pub run_of_whole : (job : Job) (s t : S) (o p : O) (e : E) → Writes (held s) (script_of job) (written o) (written p) → Fetched job s t 0 → held t ≡ held s → Run (Some job) shelf_whole held fetches reads s t written writes o p said errs e e 0
+  run_of_whole job s t o p e w went kept = record {
     most = omega arith;
     usage = λ two. absurd (omega (arith, two));
     no_job = λ none. absurd (is_some_job none);
@@ -66,6 +110,7 @@ module _ {S O E : Type 0} (held : S → List ℕ → Option (List ℕ)) (reads :
       left = λ not _. absurd (not refl);
       unwritten = λ one _. absurd (omega (arith, one));
       complete = λ _ _. inr (record { ending = gives w.has.output; ends = w.has.ends; same = refl });
+      fetched = went;
     };
     kept = kept;
     quiet = λ zero. refl;
@@ -79,8 +124,8 @@ module _ {S O E : Type 0} (held : S → List ℕ → Option (List ℕ)) (reads :
   module _ (job : Job) (s t : S) (o p : O) (e f : E) where
     job_stopped : (end : JobEnd) → IsJobEnd (held s) (script_of job) (reads s) (reads t) (Rose (writes o) (writes p) × WritesPrefix (held s) (script_of job) (written o) (written p)) end
         → (IsStoppedJob end → Leaves (writes_early job) (held s) (script_of job) written o p) → (IsRefusedJob end → TellsAll (held s) (script_of job) → p ≡ o)
-        → Says said errs e f (end_line end) → JobRun job held reads s t written writes o p (Says said errs e f) (end_status end)
-    job_stopped (Stopped (Refused refusal)) cause left unwritten says = record {
+        → Fetched job s t (end_status end) → Says said errs e f (end_line end) → JobRun job shelf_whole held fetches reads s t written writes o p (Says said errs e f) (end_status end)
+    job_stopped (Stopped (Refused refusal)) cause left unwritten went says = record {
       done = λ zero. absurd (omega (arith, zero));
       refused = λ one. record { line = refusal_line refusal; ends = cause; said = says };
       read = λ three. absurd (omega (arith, three));
@@ -89,8 +134,9 @@ module _ {S O E : Type 0} (held : S → List ℕ → Option (List ℕ)) (reads :
       left = λ _ _. left tt;
       unwritten = λ _. unwritten tt;
       complete = λ _ _. inr (record { ending = refuses (refusal_line refusal); ends = cause; same = refl });
+      fetched = went;
     }
-    job_stopped (Stopped (Read file)) cause left unwritten says = record {
+    job_stopped (Stopped (Read file)) cause left unwritten went says = record {
       done = λ zero. absurd (omega (arith, zero));
       refused = λ one. absurd (omega (arith, one));
       read = λ three. record { file = file.now; reached = cause.0; rose = cause.1; said = says };
@@ -99,8 +145,9 @@ module _ {S O E : Type 0} (held : S → List ℕ → Option (List ℕ)) (reads :
       left = λ _ _. left tt;
       unwritten = λ one. absurd (omega (arith, one));
       complete = λ all _. absurd (all file.now cause.0 cause.1);
+      fetched = went;
     }
-    job_stopped (Stopped Memory) cause left unwritten says = record {
+    job_stopped (Stopped Memory) cause left unwritten went says = record {
       done = λ zero. absurd (omega (arith, zero));
       refused = λ one. absurd (omega (arith, one));
       read = λ three. absurd (omega (arith, three));
@@ -109,8 +156,9 @@ module _ {S O E : Type 0} (held : S → List ℕ → Option (List ℕ)) (reads :
       left = λ _ _. left tt;
       unwritten = λ one. absurd (omega (arith, one));
       complete = λ _ _. inl refl;
+      fetched = went;
     }
-    job_stopped (Stopped Denied) cause left unwritten says = record {
+    job_stopped (Stopped Denied) cause left unwritten went says = record {
       done = λ zero. absurd (omega (arith, zero));
       refused = λ one. absurd (omega (arith, one));
       read = λ three. absurd (omega (arith, three));
@@ -119,8 +167,9 @@ module _ {S O E : Type 0} (held : S → List ℕ → Option (List ℕ)) (reads :
       left = λ _ _. left tt;
       unwritten = λ one. absurd (omega (arith, one));
       complete = λ _ _. inr (record { ending = denies; ends = cause; same = refl });
+      fetched = went;
     }
-    job_stopped Unwritten cause left unwritten says = record {
+    job_stopped Unwritten cause left unwritten went says = record {
       done = λ zero. absurd (omega (arith, zero));
       refused = λ one. absurd (omega (arith, one));
       read = λ three. absurd (omega (arith, three));
@@ -129,16 +178,17 @@ module _ {S O E : Type 0} (held : S → List ℕ → Option (List ℕ)) (reads :
       left = λ _ not. absurd (not refl);
       unwritten = λ one. absurd (omega (arith, one));
       complete = λ _ fine. absurd (fine cause.0);
+      fetched = went;
     }
 
     pub run_of_end : (end : JobEnd) → IsJobEnd (held s) (script_of job) (reads s) (reads t) (Rose (writes o) (writes p) × WritesPrefix (held s) (script_of job) (written o) (written p)) end
         → (IsStoppedJob end → Leaves (writes_early job) (held s) (script_of job) written o p) → (IsRefusedJob end → TellsAll (held s) (script_of job) → p ≡ o)
-        → held t ≡ held s → Says said errs e f (end_line end) → Run (Some job) held reads s t written writes o p said errs e f (end_status end)
-    run_of_end end cause left unwritten kept says = record {
+        → Fetched job s t (end_status end) → held t ≡ held s → Says said errs e f (end_line end) → Run (Some job) shelf_whole held fetches reads s t written writes o p said errs e f (end_status end)
+    run_of_end end cause left unwritten went kept says = record {
       most = (end_statuses end).most;
       usage = λ two. absurd ((end_statuses end).job two);
       no_job = λ none. absurd (is_some_job none);
-      ran = job_stopped end cause left unwritten says;
+      ran = job_stopped end cause left unwritten went says;
       kept = kept;
       quiet = λ zero. absurd (let some = (end_statuses end).some in omega (arith, some, zero));
       says_usage = λ two. absurd ((end_statuses end).job two);
@@ -151,10 +201,10 @@ module _ {S O E : Type 0} (held : S → List ℕ → Option (List ℕ)) (reads :
     pub run_of_result : (result : Result (Unit {0}) JobEnd) (status : ℕ) → OnOk result (Writes (held s) (script_of job) (written o) (written p))
         → IfErr result (IsJobEnd (held s) (script_of job) (reads s) (reads t) (Rose (writes o) (writes p) × WritesPrefix (held s) (script_of job) (written o) (written p)))
         → IfErr result (λ end. IsStoppedJob end → Leaves (writes_early job) (held s) (script_of job) written o p)
-        → IfErr result (λ end. IsRefusedJob end → TellsAll (held s) (script_of job) → p ≡ o) → held t ≡ held s
-        → OnOk result ((status ≡ 0) × (f ≡ e)) → IfErr result (λ end. (status ≡ end_status end) × Says said errs e f (end_line end)) → Run (Some job) held reads s t written writes o p said errs e f status
-    run_of_result (Ok done) status whole_text cause left unwritten kept whole stopped =
-        let of_err : E → Type 0 = λ x. Run (Some job) held reads s t written writes o p said errs e x status in
-        subst of_err (sym whole.1) (subst (λ n. Run (Some job) held reads s t written writes o p said errs e e n) (sym whole.0) (run_of_whole job s t o p e whole_text kept))
-    run_of_result (Err end) status whole_text cause left unwritten kept whole stopped =
-        subst (λ n. Run (Some job) held reads s t written writes o p said errs e f n) (sym stopped.0) (run_of_end end cause left unwritten kept stopped.1)
+        → IfErr result (λ end. IsRefusedJob end → TellsAll (held s) (script_of job) → p ≡ o) → Fetched job s t (job_status result) → held t ≡ held s
+        → OnOk result ((status ≡ 0) × (f ≡ e)) → IfErr result (λ end. (status ≡ end_status end) × Says said errs e f (end_line end)) → Run (Some job) shelf_whole held fetches reads s t written writes o p said errs e f status
+    run_of_result (Ok done) status whole_text cause left unwritten went kept whole stopped =
+        let of_err : E → Type 0 = λ x. Run (Some job) shelf_whole held fetches reads s t written writes o p said errs e x status in
+        subst of_err (sym whole.1) (subst (λ n. Run (Some job) shelf_whole held fetches reads s t written writes o p said errs e e n) (sym whole.0) (run_of_whole job s t o p e whole_text went kept))
+    run_of_result (Err end) status whole_text cause left unwritten went kept whole stopped =
+        subst (λ n. Run (Some job) shelf_whole held fetches reads s t written writes o p said errs e f n) (sym stopped.0) (run_of_end end cause left unwritten went kept stopped.1)

@@ -22,7 +22,7 @@ pub(crate) fn free_text<'a, R: Threads + AllocGlobal + Sync, S: Shelf, G: Gate>(
 ) -> Result<Vec<u8>, Stop<'a>>
     requires of { is_free job.now ≡ true }
     requires sound { IsJobInRange job.now }
-    ensures { RunsOn S.held S.faults shelf.old shelf.new (script_of job.now) result }
+    ensures { RunsOn S.whole S.held S.fetches S.faults shelf.old shelf.new (script_of job.now) result }
 {
     match job {
         Job::Free {
@@ -54,7 +54,7 @@ pub(crate) fn rows_text<'a, R: Threads + AllocGlobal + Sync, S: Shelf, G: Gate>(
 ) -> Result<Vec<u8>, Stop<'a>>
     requires of { holds_rows job.now ≡ true }
     requires sound { IsJobInRange job.now }
-    ensures { RunsOn S.held S.faults shelf.old shelf.new (script_of job.now) result }
+    ensures { RunsOn S.whole S.held S.fetches S.faults shelf.old shelf.new (script_of job.now) result }
 {
     match job {
         Job::Walk {

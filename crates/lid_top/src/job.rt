@@ -6,7 +6,8 @@ ghost use Rattle.lid_top_words.specs.Jobs.{IsJobInRange};
 ghost use Rattle.lid_top_script.specs.Scripts.{script_of};
 ghost use Rattle.lid_top_script.specs.Early.{RunsEarly};
 ghost use Rattle.lid_top_script.specs.Whole.{RunsOn};
-ghost use Rattle.lid_top_script.specs.Causes.{IsJobEnd, IsStoppedJob, IsRefusedJob};
+ghost use Rattle.lid_top_script.specs.Causes.{IsJobEnd, IsStoppedJob, IsRefusedJob, job_status};
+ghost use Rattle.lid_top_script.specs.Fetches.{FetchesJob};
 ghost use Rattle.lid_top_script.specs.Statuses.{Writes, WritesPrefix, TellsAll, Leaves, writes_early};
 
 use crate::held::{free_text, rows_text};
@@ -41,6 +42,8 @@ where
         (Rose (O.faults out.old) (O.faults out.new) × WritesPrefix (S.held shelf.old) (script_of job.now) (O.written out.old) (O.written out.new))) }
     ensures left { IfErr result (λ end. IsStoppedJob end → Leaves (writes_early job.now) (S.held shelf.old) (script_of job.now) O.written out.old out.new) }
     ensures unwritten { IfErr result (λ end. IsRefusedJob end → TellsAll (S.held shelf.old) (script_of job.now) → out.new ≡ out.old) }
+    ensures fetched { writes_early job.now ≡ false → FetchesJob S.whole (S.held shelf.old) (script_of job.now)
+        (S.fetches shelf.old) (S.fetches shelf.new) (S.faults shelf.old) (S.faults shelf.new) (job_status result) }
     ensures kept { S.held shelf.new ≡ S.held shelf.old }
 {
     match job {
@@ -99,6 +102,8 @@ fn run_whole<'a, R: Threads + AllocGlobal + Sync, S: Shelf, O: Sink, G: Gate>(
     ensures fails { IfErr result (IsJobEnd (S.held shelf.old) (script_of job.now) (S.faults shelf.old) (S.faults shelf.new)
         (Rose (O.faults out.old) (O.faults out.new) × WritesPrefix (S.held shelf.old) (script_of job.now) (O.written out.old) (O.written out.new))) }
     ensures left { IfErr result (λ end. IsStoppedJob end → out.new ≡ out.old) }
+    ensures fetched { FetchesJob S.whole (S.held shelf.old) (script_of job.now)
+        (S.fetches shelf.old) (S.fetches shelf.new) (S.faults shelf.old) (S.faults shelf.new) (job_status result) }
     ensures kept { S.held shelf.new ≡ S.held shelf.old }
 {
     match text_of(rt, gate, shelf, job) {
@@ -116,7 +121,7 @@ fn text_of<'a, R: Threads + AllocGlobal + Sync, S: Shelf, G: Gate>(
 ) -> Result<Vec<u8>, Stop<'a>>
     requires whole { writes_early job.now ≡ false }
     requires sound { IsJobInRange job.now }
-    ensures { RunsOn S.held S.faults shelf.old shelf.new (script_of job.now) result }
+    ensures { RunsOn S.whole S.held S.fetches S.faults shelf.old shelf.new (script_of job.now) result }
 {
     match job {
         Job::Clock { .. } => unreachable!(),

@@ -42,10 +42,10 @@ where
     S: Shelf,
     O: Sink,
     E: Sink,
-    ensures ran { IfOk words (λ words. Run (job_of words.items) S.held S.faults shelf.old shelf.new O.written O.faults out.old out.new
-        E.written E.faults err.old err.new (exit_status result)) }
-    ensures wordless { IfErr words (λ cause. Run None S.held S.faults shelf.old shelf.new O.written O.faults out.old out.new
-        E.written E.faults err.old err.new (exit_status result)) }
+    ensures ran { IfOk words (λ words. Run (job_of words.items) S.whole S.held S.fetches S.faults shelf.old shelf.new
+        O.written O.faults out.old out.new E.written E.faults err.old err.new (exit_status result)) }
+    ensures wordless { IfErr words (λ cause. Run None S.whole S.held S.fetches S.faults shelf.old shelf.new
+        O.written O.faults out.old out.new E.written E.faults err.old err.new (exit_status result)) }
 {
     let status = match words {
         Ok(words) => lid_run(rt, &words, shelf, out, err, &OpenGate),

@@ -21,7 +21,7 @@ pub(crate) fn told_text<'a, S: Shelf>(
     job: &'a Job,
 ) -> Result<Vec<u8>, Stop<'a>>
     requires { is_told job.now ≡ true }
-    ensures { RunsOn S.held S.faults shelf.old shelf.new (script_of job.now) result }
+    ensures { RunsOn S.whole S.held S.fetches S.faults shelf.old shelf.new (script_of job.now) result }
 {
     match job {
         Job::Rate {
@@ -60,7 +60,7 @@ pub(crate) fn netlist_text<'a, S: Shelf>(
 ) -> Result<Vec<u8>, Stop<'a>>
     requires of { reads_netlist job.now ≡ true }
     requires sound { IsJobInRange job.now }
-    ensures { RunsOn S.held S.faults shelf.old shelf.new (script_of job.now) result }
+    ensures { RunsOn S.whole S.held S.fetches S.faults shelf.old shelf.new (script_of job.now) result }
 {
     match job {
         Job::Emit {

@@ -41,7 +41,8 @@ where
     O: Sink,
     E: Sink,
     G: Gate,
-    ensures { Run (job_of words.now) S.held S.faults shelf.old shelf.new O.written O.faults out.old out.new E.written E.faults err.old err.new result }
+    ensures { Run (job_of words.now) S.whole S.held S.fetches S.faults shelf.old shelf.new O.written O.faults out.old out.new
+        E.written E.faults err.old err.new result }
 {
     match read_words(rt.alloc(), words) {
         Ok(Some(job)) => status_of(err, run_job(rt, &job, shelf, out, gate)),

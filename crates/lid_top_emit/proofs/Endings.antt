@@ -13,6 +13,8 @@ use Rattle.lid_top_script.specs.Causes.{stop_of_emit, IsCause}
 use Rattle.lid_top_script.specs.Outputs.{emitted}
 use Rattle.lid_top_script.specs.Scripts.{Ending, refuses, gives, end, read_then, emit_good, emit_read, wrapping_script, EndsIn}
 use Rattle.lid_top_script.specs.Statuses.{HasText}
+use Rattle.lid_top_script.specs.Fetches.{FetchesNothing}
+use Rattle.lid_top_script.proofs.Going.{then_nothing}
 
 module _ (held : List ℕ → Option (List ℕ)) (d : Design) (l : Links) (p : Placement) where
   -- by the judgement of names and size
@@ -36,3 +38,7 @@ module _ (held : List ℕ → Option (List ℕ)) (d : Design) (l : Links) (p : P
   emit_has_cause before after (NameTaken name) (inr memory) = subst (λ fault. IsCause held (wrapping_script d l p) before after (stop_of_emit fault)) (sym memory) tt
   emit_has_cause before after (TooBig count) (inl refused) = subst (λ fault. Ends fault (refuses (refusal_line (Emit (TooBig count))))) (sym refused) refl
   emit_has_cause before after (TooBig count) (inr memory) = subst (λ fault. IsCause held (wrapping_script d l p) before after (stop_of_emit fault)) (sym memory) tt
+
+pub wrapping_fetches_nothing : (d : Design) (l : Links) (p : Placement) → FetchesNothing (wrapping_script d l p)
+unfolding wrapping_script
+wrapping_fetches_nothing d l p = then_nothing (emit_read d l p) (λ _. end (gives (emitted d l p))) (λ _. tt)

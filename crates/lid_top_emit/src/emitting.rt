@@ -50,7 +50,7 @@ pub fn emit_text<'a, S: Shelf>(
     shelf: &mut S,
     files: &NetFiles<'a>,
 ) -> Result<Vec<u8>, Stop<'a>>
-    ensures { RunsOn S.held S.faults shelf.old shelf.new (emit_script files.now.net.now files.now.stations.now files.now.root.now) result }
+    ensures { RunsOn S.whole S.held S.fetches S.faults shelf.old shelf.new (emit_script files.now.net.now files.now.stations.now files.now.root.now) result }
 {
     match read_wrapped(alloc, shelf, files) {
         Ok(wrapped) => wrapped_text(alloc, &wrapped),

@@ -1,12 +1,12 @@
 -- The script of a command whose run holds its rows goes from the netlist to the rows, and on as the run does.
-use Rattle.std.proofs.Common.{◌≡◌, ℕ, List, Option, refl, subst}
+use Rattle.std.proofs.Common.{◌≡◌, ℕ, Bool, List, Option, Some, refl}
 use Rattle.lid_design.specs.declared.Design.{Design}
 use Rattle.lid_stations.specs.declared.placement.Placement.{Placement}
-use Rattle.lid_stations.specs.Placements.{Links, links_of}
-use Rattle.lid_top_script.specs.Causes.{GotWrapped}
-use Rattle.lid_top_script.specs.Scripts.{Script, wrapped_step, rows_step, held_step, free_script, walk_script, wave_script}
-use Rattle.lid_top_script.specs.Wrapped.{Wrapping}
-use Rattle.lid_top_script.proofs.Within.{Within, within_wrapped}
+use Rattle.lid_stations.specs.Placements.{Links}
+use Rattle.lid_top_script.specs.Fetches.{FetchesNothing}
+use Rattle.lid_top_script.specs.Outputs.{waved}
+use Rattle.lid_top_script.specs.Scripts.{Script, end, gives, trace_read, wrapped_step, rows_step, held_step, freeing_script, waving_script, free_script, walk_script, wave_script}
+use Rattle.lid_top_script.proofs.Going.{then_nothing}
 use Rattle.lid_top_held.specs.declared.run.Asked.{Asked}
 use Rattle.lid_top_held.specs.declared.run.HeldRun.{HeldRun}
 use Rattle.lid_top_held.specs.declared.run.HeldRun.TheVariants.{Free, Walk, Wave}
@@ -25,8 +25,11 @@ after_wrapped a d l p = rows_step d a.vec.now (script_for a.run d l p)
 pub asked_is : (a : Asked) → wrapped_step a.files.net.now a.files.stations.now a.files.root.now (after_wrapped a) ≡ asked_script a
 asked_is a = script_is a.files.net.now a.vec.now a.files.stations.now a.files.root.now a.run
 
-pub within_asked : (held : List ℕ → Option (List ℕ)) (a : Asked) (w : Wrapping) → GotWrapped held a.files.net.now a.files.stations.now a.files.root.now w
-    → Within held (after_wrapped a w.design (links_of w.system) w.placement) (asked_script a)
-within_asked held a w got =
-    subst (Within held (after_wrapped a w.design (links_of w.system) w.placement)) (asked_is a)
-    (within_wrapped held a.files.net.now a.files.stations.now a.files.root.now (after_wrapped a) w got)
+-- once the rows are read, a free run and a trace fetch nothing
+pub freeing_fetches_nothing : (d : Design) (l : Links) (p : Placement) (workers rounds : ℕ) (tally : Bool) (rows : List (List Bool)) → FetchesNothing (freeing_script d l p workers rounds tally rows)
+unfolding freeing_script
+freeing_fetches_nothing d l p workers rounds tally rows = tt
+
+pub waving_fetches_nothing : (d : Design) (l : Links) (p : Placement) (cycles : ℕ) (rows : List (List Bool)) → FetchesNothing (waving_script d l p cycles rows)
+unfolding waving_script
+waving_fetches_nothing d l p cycles rows = then_nothing (trace_read p (Some cycles)) (λ _. end (gives (waved d l p rows cycles))) (λ _. tt)

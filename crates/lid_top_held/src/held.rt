@@ -21,7 +21,7 @@ fn fed_text<'a, R: Threads + AllocGlobal + Sync, S: Shelf, G: Gate>(
     run: HeldRun<'a>,
 ) -> Result<Vec<u8>, Stop<'a>>
     requires { IsSoundRun run }
-    ensures { RunsOn S.held S.faults shelf.old shelf.new (fed_script run.entry fed.now.wrapped.now fed.now.rows.now.bits) result }
+    ensures { RunsOn S.whole S.held S.fetches S.faults shelf.old shelf.new (fed_script run.entry fed.now.wrapped.now fed.now.rows.now.bits) result }
 {
     match run {
         HeldRun::Walk(schedule) => walked_text(rt.alloc(), shelf, fed, schedule),
@@ -43,7 +43,8 @@ fn wrapped_text<'a, R: Threads + AllocGlobal + Sync, S: Shelf, G: Gate>(
     asked: &Asked<'a>,
 ) -> Result<Vec<u8>, Stop<'a>>
     requires { IsSoundRun asked.now.run }
-    ensures { RunsOn S.held S.faults shelf.old shelf.new (rows_step wrapped.now.design asked.now.vec.now (fed_script asked.now.run wrapped.now)) result }
+    ensures { RunsOn S.whole S.held S.fetches S.faults shelf.old shelf.new
+        (rows_step wrapped.now.design asked.now.vec.now (fed_script asked.now.run wrapped.now)) result }
 {
     let checked = &wrapped.checked;
     match read_file(rt.alloc(), shelf, asked.vec, &RowsText { checked }) {
@@ -72,7 +73,7 @@ pub fn run_text<'a, R: Threads + AllocGlobal + Sync, S: Shelf, G: Gate>(
     asked: &Asked<'a>,
 ) -> Result<Vec<u8>, Stop<'a>>
     requires { IsSoundRun asked.now.run }
-    ensures { RunsOn S.held S.faults shelf.old shelf.new (asked_script asked.now) result }
+    ensures { RunsOn S.whole S.held S.fetches S.faults shelf.old shelf.new (asked_script asked.now) result }
 {
     match read_wrapped(rt.alloc(), shelf, &asked.files) {
         Ok(wrapped) => wrapped_text(rt, gate, shelf, &wrapped, asked),

@@ -66,7 +66,7 @@ pub fn unwave_text<'a, S: Shelf>(
     shelf: &mut S,
     file: &'a str,
 ) -> Result<Vec<u8>, Stop<'a>>
-    ensures { RunsOn S.held S.faults shelf.old shelf.new (unwave_script file.now) result }
+    ensures { RunsOn S.whole S.held S.fetches S.faults shelf.old shelf.new (unwave_script file.now) result }
 {
     match read_file(alloc, shelf, file, &DumpText) {
         Ok(trace) => text_of(alloc, &trace),

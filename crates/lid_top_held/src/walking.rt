@@ -64,7 +64,7 @@ pub(crate) fn walked_text<'a, S: Shelf>(
     fed: &Fed<'_>,
     schedule: &'a str,
 ) -> Result<Vec<u8>, Stop<'a>>
-    ensures { RunsOn S.held S.faults shelf.old shelf.new (schedule_script fed.now.wrapped.now.design (links_of fed.now.wrapped.now.system)
+    ensures { RunsOn S.whole S.held S.fetches S.faults shelf.old shelf.new (schedule_script fed.now.wrapped.now.design (links_of fed.now.wrapped.now.system)
         fed.now.wrapped.now.placement schedule.now fed.now.rows.now.bits) result }
 {
     let actors = actors_of(fed.wrapped);

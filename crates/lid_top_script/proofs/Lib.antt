@@ -6,3 +6,5 @@ pub mod Within
 pub mod Schedules
 pub mod Tokens
 pub mod Stalls
+pub mod Going
+pub mod Fetched

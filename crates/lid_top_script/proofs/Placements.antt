@@ -17,7 +17,7 @@ use Rattle.lid_top_script.specs.declared.fault.Stop.{Stop}
 use Rattle.lid_top_script.specs.declared.fault.Stop.TheVariants.{Refused, Read, Memory, Denied}
 use Rattle.lid_top_script.specs.Scripts.{refuses, Script, Reading, good, bad, net_limit, net_reading, text_limit, links, placement_read, stations_read, wires_read, cert_unless, cert_read, check_step, net_step, system_step, placement_step, wrapped_step, IsUnchecked, HasChannels, IsOverfull}
 use Rattle.lid_top_script.specs.Wrapped.{Building}
-use Rattle.lid_top_script.specs.Causes.{Declines, HasTooMany, stop_of_place, stop_of_cert, GotSystem, MissesSystem, MissesPlacement, MissesWrapped, IsCause}
+use Rattle.lid_top_script.specs.Causes.{Declines, HasTooMany, stop_of_place, stop_of_cert, GotSystem, MissesSystem, MissesPlacement, MissesStations, MissesWrapped, IsCause}
 use Rattle.lid_top_script.proofs.Composition.{rose_later, cause_here, cause_unchecked, cause_undecided, want_anywhere}
 use Rattle.lid_top_script.proofs.Within.{within_read, within_checked, within_built, same_cause}
 
@@ -102,13 +102,13 @@ unplaced_later held l (Some stations) before mid after Denied grows m = m
 -- relay stations
 module _ (held : List ℕ → Option (List ℕ)) (net : List ℕ) (stations root : Option (List ℕ)) where
   -- the placement is missed over the shelf that the reading of the netlist has left
-  pub unwrapped : {now : List ℕ → Option (List ℕ)} {before mid after : List ℕ → ℕ} {stop : Stop} (b : Building) → GotSystem held net root b → now ≡ held → ((q : List ℕ) → before q ≤ mid q)
-      → MissesPlacement now (links_of b.system) stations mid after stop → MissesWrapped held net stations root before after stop
-  unwrapped {before = before} {mid = mid} {after = after} {stop = stop} b g same grows m = inr (record {
+  pub misses_stations : {now : List ℕ → Option (List ℕ)} {before mid after : List ℕ → ℕ} {stop : Stop} (b : Building) → GotSystem held net root b → now ≡ held → ((q : List ℕ) → before q ≤ mid q)
+      → MissesPlacement now (links_of b.system) stations mid after stop → MissesStations held net stations root before after stop
+  misses_stations {before = before} {mid = mid} {after = after} {stop = stop} b g same grows m = record {
     building = b;
     built = g;
     misses = unplaced_later held (links_of b.system) stations before mid after stop grows (subst (λ (h : List ℕ → Option (List ℕ)). MissesPlacement h (links_of b.system) stations mid after stop) same m);
-  })
+  }
 
   pub cause_unwrapped : (next : Design → Links → Placement → Script) (before after : List ℕ → ℕ) (stop : Stop) → MissesWrapped held net stations root before after stop → IsCause held (wrapped_step net stations root next) before after stop
   cause_unwrapped next before after stop (inl m) = cause_unbuilt held net root (λ d l. placement_step l stations (next d l)) before after stop m

@@ -1,5 +1,5 @@
 -- Why a run does not end with its whole output: the cause that a value of the program tells.
-use Rattle.std.specs.Prelude.{◌≡◌, ◌⊎◌, ℕ, List, Option, Some, None}
+use Rattle.std.specs.Prelude.{◌≡◌, ◌⊎◌, ℕ, List, Option, Some, None, Result, Ok, Err}
 use Rattle.lid_base.specs.Outside.{Rose}
 use Rattle.lid_top_refusals.specs.declared.refusal.Refusal.TheVariants.{Blif, Check, Net, Rows, Stations, Cert, Stalls, Schedule, Vcd, Gen, Emit}
 use Rattle.lid_top_script.specs.declared.fault.Stop.{Stop}
@@ -245,6 +245,11 @@ stop_line Denied = denied_line
 abbrev pub end_status : JobEnd → ℕ
 end_status (Stopped stop) = stop_status stop
 end_status Unwritten = 4
+
+-- the status of a job by its result
+abbrev pub job_status : Result (Unit {0}) JobEnd → ℕ
+job_status (Ok done) = 0
+job_status (Err end) = end_status end
 
 -- the line of an end
 abbrev pub end_line : JobEnd → List ℕ

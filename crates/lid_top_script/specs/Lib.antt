@@ -7,6 +7,7 @@ pub mod Freed
 pub mod Generated
 pub mod Emitting
 pub mod Early
+pub mod Fetches
 pub mod Whole
 pub mod Outputs
 pub mod Scripts

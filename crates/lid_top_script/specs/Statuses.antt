@@ -1,5 +1,6 @@
 -- What each status of a run says.
 use Rattle.std.specs.Prelude.{◌≡◌, ◌≢◌, ℕ, ◌≤◌, Bool, true, false, List, Option, None, IsSome, IfSome, ◌⊎◌}
+use Rattle.lid_base.specs.declared.outside.Fetch.{Fetch}
 use Rattle.lid_base.specs.Outside.{Rose, Appended, AppendedPrefix}
 use Rattle.lid_top_words.specs.declared.job.Job.{Job}
 use Rattle.lid_top_words.specs.declared.job.Job.TheVariants.{Check, Clock, Emit, Free, Gen, Place, Rate, Size, Slack, Strict, Unwave, Verify, Walk, Wave}
@@ -7,6 +8,7 @@ use Rattle.lid_top_refusals.specs.Saying.{Says}
 use Rattle.lid_top_refusals.specs.Faults.{usage_line, read_line, write_line, memory_line, denied_line}
 use Rattle.lid_top_script.specs.Outputs.{Output, IsTextOf}
 use Rattle.lid_top_script.specs.Scripts.{Ending, refuses, denies, gives, Script, EndsIn, ReachesFetch, script_of}
+use Rattle.lid_top_script.specs.Fetches.{FetchesJob}
 
 -- a text that the script may end in
 pub record HasText (held : List ℕ → Option (List ℕ)) (script : Script) (text : List ℕ) : Type 0 where
@@ -83,9 +85,10 @@ Leaves false held script written old new = new ≡ old
 Leaves true held script written old new = (new ≡ old) ⊎ WritesPrefix held script (written old) (written new)
 
 -- what the run of a job shows. `Said` tells of each line whether it was said on the standard error;
--- shelves are seen by what they hold and by their counts, the output by what was written and its count
+-- shelves are seen by what they hold, by their fetches and by their counts, the output by what was written and its
+-- count
 pub record JobRun {S O : Type 0} (job : Job)
-    (held : S → List ℕ → Option (List ℕ)) (reads : S → List ℕ → ℕ) (shelf shelf_after : S)
+    (whole : Bool) (held : S → List ℕ → Option (List ℕ)) (fetches : S → Option (List Fetch)) (reads : S → List ℕ → ℕ) (shelf shelf_after : S)
     (written : O → Option (List ℕ)) (writes : O → ℕ) (out out_after : O)
     (Said : List ℕ → Type 0) (status : ℕ) : Type 0 where
   -- 0: the whole output was written
@@ -105,10 +108,13 @@ pub record JobRun {S O : Type 0} (job : Job)
   -- where no count rose, the status is that of an ending of the script, or want of memory
   pub complete : ReadsAll (held shelf) (script_of job) (reads shelf) (reads shelf_after) → ¬ Rose (writes out) (writes out_after)
       → (status ≡ 5) ⊎ IsStatusOf (held shelf) (script_of job) status
+  -- where the shelf tells its fetches, a job that does not write early makes those of its script and no other; and no
+  -- count of reads rises but at 3
+  pub fetched : writes_early job ≡ false → FetchesJob whole (held shelf) (script_of job) (fetches shelf) (fetches shelf_after) (reads shelf) (reads shelf_after) status
 
 -- what a run shows, by the job that its words ask for
 pub record Run {S O E : Type 0} (asked : Option Job)
-    (held : S → List ℕ → Option (List ℕ)) (reads : S → List ℕ → ℕ) (shelf shelf_after : S)
+    (whole : Bool) (held : S → List ℕ → Option (List ℕ)) (fetches : S → Option (List Fetch)) (reads : S → List ℕ → ℕ) (shelf shelf_after : S)
     (written : O → Option (List ℕ)) (writes : O → ℕ) (out out_after : O)
     (said : E → Option (List ℕ)) (errs : E → ℕ) (err err_after : E)
     (status : ℕ) : Type 0 where
@@ -117,7 +123,7 @@ pub record Run {S O E : Type 0} (asked : Option Job)
   pub usage : status ≡ 2 → asked ≡ None
   -- words that are no job: nothing is fetched and nothing written
   pub no_job : asked ≡ None → ((status ≡ 2) ⊎ (status ≡ 5)) × (shelf_after ≡ shelf) × (out_after ≡ out)
-  pub ran : IfSome asked (λ job. JobRun job held reads shelf shelf_after written writes out out_after (Says said errs err err_after) status)
+  pub ran : IfSome asked (λ job. JobRun job whole held fetches reads shelf shelf_after written writes out out_after (Says said errs err err_after) status)
   -- no fetch changes what is held
   pub kept : held shelf_after ≡ held shelf
   -- 0: nothing is said

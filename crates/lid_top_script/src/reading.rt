@@ -3,6 +3,7 @@
 ghost use Rattle.std.specs.Prelude.{◌≡◌, ℕ, ◌≤◌, List, IfOk, IfErr};
 ghost use Rattle.lid_top_script.specs.Scripts.{IsFetched, Reading, good};
 ghost use Rattle.lid_top_script.specs.Causes.{Declines, MissesFile, Got, Misses};
+ghost use Rattle.lid_top_script.specs.Fetches.{FetchesFile};
 
 use crate::fault::Stop;
 use lid_base::Shelf;
@@ -50,6 +51,7 @@ fn fetch_file<'a, S: Shelf>(
 ) -> Result<Vec<u8>, Stop<'a>>
     ensures ok { IfOk result (λ bytes. IsFetched (S.held shelf.old) name.now limit bytes.items) }
     ensures err { IfErr result (MissesFile name.now (S.faults shelf.old) (S.faults shelf.new)) }
+    ensures fetched { FetchesFile S.whole (S.held shelf.old name.now) name.now limit (S.fetches shelf.old) (S.fetches shelf.new) (S.faults shelf.old) (S.faults shelf.new) result }
     ensures kept { S.held shelf.new ≡ S.held shelf.old }
     ensures grows { (q : List ℕ) → S.faults shelf.old q ≤ S.faults shelf.new q }
 {
@@ -75,6 +77,8 @@ pub fn read_file<'a, T: FileText, S: Shelf>(
     ensures sound { IfOk result (T.is_sound text.now) }
     ensures err { IfErr result (Misses (S.held shelf.old) name.now T.limit (T.reading text.now)
         (S.faults shelf.old) (S.faults shelf.new)) }
+    ensures fetched { FetchesFile S.whole (S.held shelf.old name.now) name.now T.limit
+        (S.fetches shelf.old) (S.fetches shelf.new) (S.faults shelf.old) (S.faults shelf.new) result }
     ensures kept { S.held shelf.new ≡ S.held shelf.old }
     ensures grows { (q : List ℕ) → S.faults shelf.old q ≤ S.faults shelf.new q }
 {

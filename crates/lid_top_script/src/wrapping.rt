@@ -3,6 +3,8 @@
 ghost use Rattle.std.specs.Prelude.{◌≡◌, ℕ, ◌≤◌, List, IfOk, IfErr};
 ghost use Rattle.lid_design.specs.WellFormed.{IsWellFormed};
 ghost use Rattle.lid_top_script.specs.Causes.{BuildsSystem, FailsSystem, GotSystem, MissesSystem, GotWrapped, MissesWrapped};
+ghost use Rattle.lid_top_script.specs.Fetches.{FetchesFile, FetchesWrapped};
+ghost use Rattle.lid_top_script.specs.Scripts.{net_limit};
 
 use crate::fault::Stop;
 use crate::placing::read_placement;
@@ -37,6 +39,8 @@ pub fn read_system<'a, S: Shelf>(
 ) -> Result<Built, Stop<'a>>
     ensures ok { IfOk result (GotSystem (S.held shelf.old) net.now root.now) }
     ensures err { IfErr result (MissesSystem (S.held shelf.old) net.now root.now (S.faults shelf.old) (S.faults shelf.new)) }
+    ensures fetched { FetchesFile S.whole (S.held shelf.old net.now) net.now net_limit
+        (S.fetches shelf.old) (S.fetches shelf.new) (S.faults shelf.old) (S.faults shelf.new) result }
     ensures kept { S.held shelf.new ≡ S.held shelf.old }
     ensures grows { (q : List ℕ) → S.faults shelf.old q ≤ S.faults shelf.new q }
 {
@@ -56,6 +60,8 @@ pub fn read_wrapped<'a, S: Shelf>(
     ensures ok { IfOk result (GotWrapped (S.held shelf.old) files.now.net.now files.now.stations.now files.now.root.now) }
     ensures err { IfErr result (MissesWrapped (S.held shelf.old) files.now.net.now files.now.stations.now files.now.root.now
         (S.faults shelf.old) (S.faults shelf.new)) }
+    ensures fetched { FetchesWrapped S.whole (S.held shelf.old) files.now.net.now files.now.stations.now files.now.root.now
+        (S.fetches shelf.old) (S.fetches shelf.new) (S.faults shelf.old) (S.faults shelf.new) result }
     ensures kept { S.held shelf.new ≡ S.held shelf.old }
     ensures grows { (q : List ℕ) → S.faults shelf.old q ≤ S.faults shelf.new q }
 {

@@ -94,7 +94,7 @@ pub fn check_text<'a, S: Shelf>(
     net: &'a str,
     root: &Option<Name>,
 ) -> Result<Vec<u8>, Stop<'a>>
-    ensures { RunsOn S.held S.faults shelf.old shelf.new (check_script net.now root.now) result }
+    ensures { RunsOn S.whole S.held S.fetches S.faults shelf.old shelf.new (check_script net.now root.now) result }
 {
     match read_system(alloc, shelf, net, root) {
         Ok(built) => built_text(alloc, &built),

@@ -42,7 +42,7 @@ fn wires_text<'a, S: Shelf>(
 ) -> Result<Vec<u8>, Stop<'a>>
     requires system { IsSystem system.now }
     requires reach { 1 ≤ reach }
-    ensures { RunsOn S.held S.faults shelf.old shelf.new (wires_script (links_of system.now) wires.now reach) result }
+    ensures { RunsOn S.whole S.held S.fetches S.faults shelf.old shelf.new (wires_script (links_of system.now) wires.now reach) result }
 {
     match read_file(alloc, shelf, wires, &WiresText { system, reach }) {
         Ok(placement) => stations_text(alloc, system, &placement),
@@ -60,7 +60,7 @@ pub fn place_text<'a, S: Shelf>(
     root: &Option<Name>,
 ) -> Result<Vec<u8>, Stop<'a>>
     requires { 1 ≤ reach }
-    ensures { RunsOn S.held S.faults shelf.old shelf.new (place_script net.now wires.now reach root.now) result }
+    ensures { RunsOn S.whole S.held S.fetches S.faults shelf.old shelf.new (place_script net.now wires.now reach root.now) result }
 {
     match read_system(alloc, shelf, net, root) {
         Ok(built) => wires_text(alloc, shelf, &built.system, wires, reach),

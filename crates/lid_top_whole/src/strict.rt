@@ -37,7 +37,7 @@ fn rows_text<'a, S: Shelf>(
     checked: &Checked,
     vec: &'a str,
 ) -> Result<Vec<u8>, Stop<'a>>
-    ensures { RunsOn S.held S.faults shelf.old shelf.new (rows_script checked.now vec.now) result }
+    ensures { RunsOn S.whole S.held S.fetches S.faults shelf.old shelf.new (rows_script checked.now vec.now) result }
 {
     match read_file(alloc, shelf, vec, &RowsText { checked }) {
         Ok(rows) => outputs_text(alloc, checked, &rows),
@@ -54,7 +54,7 @@ fn checked_text<'a, S: Shelf>(
     root: &Option<Name>,
 ) -> Result<Vec<u8>, Stop<'a>>
     requires { IsWellFormed design }
-    ensures { RunsOn S.held S.faults shelf.old shelf.new (checked_script design vec.now root.now) result }
+    ensures { RunsOn S.whole S.held S.fetches S.faults shelf.old shelf.new (checked_script design vec.now root.now) result }
 {
     match accept(alloc, design, root) {
         Ok(checked) => rows_text(alloc, shelf, &checked, vec),
@@ -70,7 +70,7 @@ pub fn strict_text<'a, S: Shelf>(
     vec: &'a str,
     root: &Option<Name>,
 ) -> Result<Vec<u8>, Stop<'a>>
-    ensures { RunsOn S.held S.faults shelf.old shelf.new (strict_script net.now vec.now root.now) result }
+    ensures { RunsOn S.whole S.held S.fetches S.faults shelf.old shelf.new (strict_script net.now vec.now root.now) result }
 {
     match read_file(alloc, shelf, net, &NetText) {
         Ok(design) => checked_text(alloc, shelf, design, vec, root),

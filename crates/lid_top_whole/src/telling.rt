@@ -68,7 +68,7 @@ pub fn telling_text<'a, S: Shelf>(
     files: &NetFiles<'a>,
     telling: Telling,
 ) -> Result<Vec<u8>, Stop<'a>>
-    ensures { RunsOn S.held S.faults shelf.old shelf.new
+    ensures { RunsOn S.whole S.held S.fetches S.faults shelf.old shelf.new
         (telling_script (output_of telling) files.now.net.now files.now.stations.now files.now.root.now) result }
 {
     match read_wrapped(alloc, shelf, files) {

@@ -66,7 +66,7 @@ fn cert_text<'a, S: Shelf>(
     wrapped: &Wrapped,
     cert: &'a str,
 ) -> Result<Vec<u8>, Stop<'a>>
-    ensures { RunsOn S.held S.faults shelf.old shelf.new (cert_script (links_of wrapped.now.system) wrapped.now.placement cert.now) result }
+    ensures { RunsOn S.whole S.held S.fetches S.faults shelf.old shelf.new (cert_script (links_of wrapped.now.system) wrapped.now.placement cert.now) result }
 {
     match read_file(alloc, shelf, cert, &CertText) {
         Ok(cert) => judged_text(alloc, wrapped, &cert),
@@ -81,7 +81,8 @@ pub fn verify_text<'a, S: Shelf>(
     files: &NetFiles<'a>,
     cert: &'a str,
 ) -> Result<Vec<u8>, Stop<'a>>
-    ensures { RunsOn S.held S.faults shelf.old shelf.new (verify_script files.now.net.now cert.now files.now.stations.now files.now.root.now) result }
+    ensures { RunsOn S.whole S.held S.fetches S.faults shelf.old shelf.new
+        (verify_script files.now.net.now cert.now files.now.stations.now files.now.root.now) result }
 {
     match read_wrapped(alloc, shelf, files) {
         Ok(wrapped) => cert_text(alloc, shelf, &wrapped, cert),

@@ -1,0 +1,149 @@
+-- Which fetches a script makes, and where it halts.
+use Rattle.std.specs.Prelude.{◌≡◌, ◌≢◌, ℕ, Bool, List, [], ◌++◌, Option, Some, None, Result, IfOk, OnOk, IfErr, ◌⊎◌}
+use Rattle.lid_base.specs.declared.outside.Fetch.{Fetch}
+use Rattle.lid_base_io.specs.Calls.{CameAs, IsFetching, IsFetchingPart}
+use Rattle.lid_top_refusals.specs.Refusals.{refusal_line}
+use Rattle.lid_top_script.specs.declared.fault.Stop.{Stop}
+use Rattle.lid_top_script.specs.declared.fault.Stop.TheVariants.{Refused, Read, Memory, Denied}
+use Rattle.lid_top_script.specs.Outputs.{Output, IsTextOf}
+use Rattle.lid_top_script.specs.Scripts.{Ending, refuses, denies, gives, Script, fetch, again, decide, end, net_limit, text_limit, IsFetched, IsReread, IsChanged}
+use Rattle.lid_top_script.specs.Causes.{MissesSystem, MissesStations}
+
+-- where a script halts
+pub data Halt : Type 0 where
+  at_end : Ending → Halt
+  at_fetch : List ℕ → Halt  -- a fetch of this file failed
+  between : Halt  -- memory was wanting
+
+-- a script may halt so while it fetches this file
+abbrev pub HaltsIn : Halt → List ℕ → Type 0
+HaltsIn (at_end ending) name = ⊥
+HaltsIn (at_fetch file) name = name ≡ file
+HaltsIn between name = Unit {0}
+
+-- the script goes by these fetches until it halts so, for some bytes of its files, those told where they are told: all
+-- fetches of each file that it comes to, in order, and some first ones of the file in which it halts and of one whose
+-- rows are read a second time
+abbrev pub GoesBy : Bool → (List ℕ → Option (List ℕ)) → Script → List Fetch → Halt → Type 0
+GoesBy whole held (fetch name limit next) calls halt =
+    (HaltsIn halt name × IsFetchingPart whole (held name) name limit calls)
+    ⊎ ((bytes : List ℕ) × (first : List Fetch) × (rest : List Fetch) × (calls ≡ first ++ rest)
+    × IsFetched held name limit bytes × IsFetching whole (held name) name limit first × GoesBy whole held (next bytes) rest halt)
+GoesBy whole held (again second next) calls halt =
+    (HaltsIn halt second.name × IsFetchingPart whole (held second.name) second.name second.limit calls)
+    ⊎ ((rows : List (List Bool)) × (first : List Fetch) × (rest : List Fetch) × (calls ≡ first ++ rest)
+    × IsReread held second rows × IsFetchingPart whole (held second.name) second.name second.limit first × GoesBy whole held (next rows) rest halt)
+    ⊎ ((line : List ℕ) × IsChanged held second line × IsFetchingPart whole (held second.name) second.name second.limit calls × (halt ≡ at_end (refuses line)))
+GoesBy whole held (decide {A} Good Bad next) calls halt =
+    ((calls ≡ []) × (halt ≡ between))
+    ⊎ ((a : A) × Good a × GoesBy whole held (next a) calls halt)
+    ⊎ ((line : List ℕ) × Bad line × (calls ≡ []) × (halt ≡ at_end (refuses line)))
+GoesBy whole held (end last) calls halt = (calls ≡ []) × ((halt ≡ at_end last) ⊎ (halt ≡ between))
+
+-- a text that the script may end in, and the fetches by which it comes to that end
+pub record HasTextBy (whole : Bool) (held : List ℕ → Option (List ℕ)) (script : Script) (text : List ℕ) (calls : List Fetch) : Type 0 where
+  pub output : Output
+  pub goes : GoesBy whole held script calls (at_end (gives output))
+  pub text_of : IsTextOf output text
+
+-- where a script halts for this reason
+abbrev pub halt_of : Stop → Halt
+halt_of (Refused refusal) = at_end (refuses (refusal_line refusal))
+halt_of (Read file) = at_fetch file.now
+halt_of Memory = between
+halt_of Denied = at_end denies
+
+-- counts rose only where a fetch failed
+abbrev pub StillAt : Stop → (List ℕ → ℕ) → (List ℕ → ℕ) → Type 0
+StillAt (Read file) before after = Unit {0}
+StillAt _ before after = (q : List ℕ) → after q ≡ before q
+
+-- steps whose calls are these where they come to something, and those where they stop for a reason; so the calls told
+-- and the counts are before them and after them
+pub record StepsBy {A : Type 0} (All : A → List Fetch → Type 0) (Part : Stop → List Fetch → Type 0)
+    (old new : Option (List Fetch)) (before after : List ℕ → ℕ) (result : Result A Stop) : Type 0 where
+  pub done : IfOk result (λ a. CameAs old new (All a))
+  pub begun : IfErr result (λ stop. CameAs old new (Part stop))
+  pub still : OnOk result ((q : List ℕ) → after q ≡ before q)
+  pub still_at : IfErr result (λ stop. StillAt stop before after)
+
+-- the fetches of a file that is not read for this reason: all of them, where it is its text that is refused
+abbrev pub FetchesFor : Stop → Bool → Option (List ℕ) → List ℕ → ℕ → List Fetch → Type 0
+FetchesFor (Refused refusal) = IsFetching
+FetchesFor (Read file) = IsFetchingPart
+FetchesFor Memory = IsFetchingPart
+FetchesFor Denied = IsFetching
+
+-- the steps that read a file
+abbrev pub FetchesFile : {A : Type 0} → Bool → Option (List ℕ) → List ℕ → ℕ → Option (List Fetch) → Option (List Fetch) → (List ℕ → ℕ) → (List ℕ → ℕ) → Result A Stop → Type 0
+FetchesFile whole held name limit old new before after result =
+    StepsBy (λ _. IsFetching whole held name limit) (λ stop. FetchesFor stop whole held name limit) old new before after result
+
+-- the fetches of the file of stations, where one is named
+abbrev pub StationsCalls : Bool → (List ℕ → Option (List ℕ)) → Option (List ℕ) → List Fetch → Type 0
+StationsCalls whole held None calls = calls ≡ []
+StationsCalls whole held (Some stations) calls = IsFetching whole (held stations) stations text_limit calls
+
+-- the same where there is no placement for this reason
+abbrev pub StationsPart : Bool → (List ℕ → Option (List ℕ)) → Option (List ℕ) → Stop → List Fetch → Type 0
+StationsPart whole held None stop calls = calls ≡ []
+StationsPart whole held (Some stations) stop calls = FetchesFor stop whole (held stations) stations text_limit calls
+
+-- the steps to the placement of a job
+abbrev pub FetchesStations : {A : Type 0} → Bool → (List ℕ → Option (List ℕ)) → Option (List ℕ) → Option (List Fetch) → Option (List Fetch) → (List ℕ → ℕ) → (List ℕ → ℕ) → Result A Stop → Type 0
+FetchesStations whole held stations old new before after result =
+    StepsBy (λ _. StationsCalls whole held stations) (StationsPart whole held stations) old new before after result
+
+-- the fetches of the netlist, and then those of the stations
+pub record WrappedCalls (whole : Bool) (held : List ℕ → Option (List ℕ)) (net : List ℕ) (stations : Option (List ℕ)) (calls : List Fetch) : Type 0 where
+  pub first : List Fetch
+  pub rest : List Fetch
+  pub are : calls ≡ first ++ rest
+  pub of_net : IsFetching whole (held net) net net_limit first
+  pub of_stations : StationsCalls whole held stations rest
+
+-- the system is had, and no placement, after these fetches
+pub record MissesStationsBy (whole : Bool) (held : List ℕ → Option (List ℕ)) (net : List ℕ) (stations root : Option (List ℕ)) (before after : List ℕ → ℕ) (stop : Stop) (calls : List Fetch) : Type 0 where
+  pub misses : MissesStations held net stations root before after stop
+  pub first : List Fetch
+  pub rest : List Fetch
+  pub are : calls ≡ first ++ rest
+  pub of_net : IsFetching whole (held net) net net_limit first
+  pub of_stations : StationsPart whole held stations stop rest
+
+-- why the netlist or the stations are not had, after these fetches
+abbrev pub MissesWrappedBy : Bool → (List ℕ → Option (List ℕ)) → List ℕ → Option (List ℕ) → Option (List ℕ) → (List ℕ → ℕ) → (List ℕ → ℕ) → Stop → List Fetch → Type 0
+MissesWrappedBy whole held net stations root before after stop calls =
+    (MissesSystem held net root before after stop × FetchesFor stop whole (held net) net net_limit calls)
+    ⊎ MissesStationsBy whole held net stations root before after stop calls
+
+-- the steps to a system with its stations
+abbrev pub FetchesWrapped : {A : Type 0} → Bool → (List ℕ → Option (List ℕ)) → List ℕ → Option (List ℕ) → Option (List ℕ) → Option (List Fetch) → Option (List Fetch) → (List ℕ → ℕ) → (List ℕ → ℕ) → Result A Stop → Type 0
+FetchesWrapped whole held net stations root old new before after result =
+    StepsBy (λ _. WrappedCalls whole held net stations) (MissesWrappedBy whole held net stations root before after) old new before after result
+
+-- a script without a fetch
+abbrev pub FetchesNothing : Script → Type 0
+FetchesNothing (fetch name limit next) = ⊥
+FetchesNothing (again second next) = ⊥
+FetchesNothing (decide {A} Good Bad next) = (a : A) → FetchesNothing (next a)
+FetchesNothing (end last) = Unit {0}
+
+-- a job whose script halts so may end with this status; a write fails only where the output is whole
+abbrev pub IsStatusAt : Halt → ℕ → Type 0
+IsStatusAt (at_end (refuses line)) status = status ≡ 1
+IsStatusAt (at_end denies) status = status ≡ 6
+IsStatusAt (at_end (gives output)) status = (status ≡ 0) ⊎ (status ≡ 4)
+IsStatusAt (at_fetch file) status = status ≡ 3
+IsStatusAt between status = status ≡ 5
+
+-- the fetches of a job that ends with this status: its script goes by them until it halts
+pub record AreJobCalls (whole : Bool) (held : List ℕ → Option (List ℕ)) (script : Script) (status : ℕ) (calls : List Fetch) : Type 0 where
+  pub halt : Halt
+  pub goes : GoesBy whole held script calls halt
+  pub halts : IsStatusAt halt status
+
+-- the job made these fetches and no other, and no count rose but where one of them failed
+pub record FetchesJob (whole : Bool) (held : List ℕ → Option (List ℕ)) (script : Script) (old new : Option (List Fetch)) (before after : List ℕ → ℕ) (status : ℕ) : Type 0 where
+  pub came : CameAs old new (AreJobCalls whole held script status)
+  pub still : status ≢ 3 → (q : List ℕ) → after q ≡ before q
