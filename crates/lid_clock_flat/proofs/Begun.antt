@@ -37,9 +37,9 @@ begun r l g count rows x stations run ran is many given laid has = record {
   flags = has.flags ∙ ran.all_actors.many;
   unset = has.unset;
   asleep = record {
-    many = has.looked ∙ ran.all_actors.many;
-    barred = λ v e. clash false (has.all v false e) refl;
-    rested = λ v a e at. clash false (has.all v false e) refl;
+    many = has.awake_many ∙ ran.all_actors.many;
+    barred = λ v e. clash false (has.awake_all v false e) refl;
+    rested = λ v a e at. clash false (has.awake_all v false e) refl;
   };
   latest = λ a at. ran.latest a (first_at count x.actors.items (sink l) a (subst (λ (xs : List ClockActor). slice_get xs (sink l) ≡ Some a) has.nodes at));
 }

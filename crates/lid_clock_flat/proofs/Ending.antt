@@ -21,7 +21,7 @@ use Rattle.lid_clock_flat.specs.Rings.{around, StationSettles}
 use Rattle.lid_clock_flat.specs.Reads.{AreThere, AreReadOnce, IsReadAt, AllAre, CanSettle}
 use Rattle.lid_clock_flat.specs.Flats.{HaveDecided}
 use Rattle.lid_clock_flat.specs.Wakings.{DecidedTo}
-use Rattle.lid_clock_flat.specs.Ends.{other_end, CanLose, AreEndsAmong, EndSettles, EndsSettle, fired_before, SettlesTo, WakesTo, KeepsActors, SettledTo, HasFired}
+use Rattle.lid_clock_flat.specs.Ends.{other_end, CanSettleEnd, AreEndsAmong, EndSettles, EndsSettle, fired_before, SettlesTo, WakesTo, KeepsActors, SettledTo, HasFired}
 use Rattle.lid_clock_flat.proofs.Settled.{can_settle}
 use mathlib.Core.Logic.{dite}
 use native.Mathlib.Decide.{ℕ_discrete}
@@ -123,8 +123,8 @@ among_still reads loses i old now was woke so among s y at =
     let same = so.ends s x.0 y x.1 at in
     (omega (arith, own.0, same.0, so.long), omega (arith, own.1, same.1, so.long))
 
-pub can_next : (reads : List ℕ) (loses : Bool) (i : ℕ) (old now : List FlatStation) (was woke : List Bool) → EndsSettle reads loses i old now was woke → i < length reads → AreReadOnce reads → AllAre (CanLose loses) reads old
-    → (y : FlatStation) → slice_get now (get_or reads i 0) ≡ Some y → CanLose loses y
+pub can_next : (reads : List ℕ) (loses : Bool) (i : ℕ) (old now : List FlatStation) (was woke : List Bool) → EndsSettle reads loses i old now was woke → i < length reads → AreReadOnce reads → AllAre (CanSettleEnd loses) reads old
+    → (y : FlatStation) → slice_get now (get_or reads i 0) ≡ Some y → CanSettleEnd loses y
 can_next reads loses i old now was woke so within once can y at =
     can i within y (sym (so.kept (get_or reads i 0) (λ j less same. let e : j ≡ i = once j i (omega arith) within same in omega arith)) ∙ at)
 
@@ -258,7 +258,7 @@ module _ (r : RunsGoByRules) (l : Life) (k g : ℕ) (x : FlatRun) (all : Decided
       (place.0, read.0, read.1)
 
   -- each station that it drains can lose a token
-  pub ins_can : AllAre (CanLose true) ins y.stations.all.items
+  pub ins_can : AllAre (CanSettleEnd true) ins y.stations.all.items
   ins_can i within b at =
       let s : ℕ = get_or ins i 0 in
       let a = was_at s b at in
@@ -305,7 +305,7 @@ module _ (r : RunsGoByRules) (l : Life) (k g : ℕ) (x : FlatRun) (all : Decided
         )
 
     -- each station that it fills can gain one
-    pub outs_can : AllAre (CanLose false) outs mid
+    pub outs_can : AllAre (CanSettleEnd false) outs mid
     outs_can i within b at =
         let s : ℕ = get_or outs i 0 in
         let a = mid_was s b at in

@@ -214,3 +214,7 @@ module _ (l : Life) (k g n j : ℕ) (went : Bool) (x : FlatRun) (to : DecidedTo 
             (λ a e at. let low = slice_get_within x.nodes.items n a (subst (λ (xs : List ClockActor). slice_get xs n ≡ Some a) same at) in absurd (omega arith))
             (λ v other. ap (λ (xs : List ClockActor). slice_get xs v) same));
       }
+
+-- the number of an actor after the nodes
+pub mover_number : (x : FlatRun) (nodes actor : ℕ) → nodes ≡ length x.nodes.items → nodes ≤ actor → actor ≡ length x.nodes.items + (actor - nodes)
+mover_number x nodes actor many past = omega (arith, many)

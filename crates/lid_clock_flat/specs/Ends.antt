@@ -12,9 +12,9 @@ use Rattle.lid_clock_flat.specs.Wakings.{DecidedTo, KeepsRows}
 abbrev pub other_end : Bool → FlatStation → ℕ
 other_end loses x = if loses then x.filler else x.drainer
 
--- a station can lose a token, or else gain one
-abbrev pub CanLose : Bool → FlatStation → Type 0
-CanLose loses x = (loses ≡ true → 0 < x.held) × (loses ≡ false → x.held < x.cap)
+-- a station can settle at one end: it has a token to lose, or else room to gain one
+abbrev pub CanSettleEnd : Bool → FlatStation → Type 0
+CanSettleEnd loses x = (loses ≡ true → 0 < x.held) × (loses ≡ false → x.held < x.cap)
 
 -- the ends of all stations are among so many actors
 abbrev pub AreEndsAmong : ℕ → List FlatStation → Type 0

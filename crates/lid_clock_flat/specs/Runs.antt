@@ -45,7 +45,7 @@ pub record IsFlatRunOf (actors : List ClockActor) (stations : FlatStations) (cou
   pub stations_are : x.stations ≡ stations
   pub flags : length x.went.items ≡ length actors
   pub unset : AreUnset 0 x.went.items
-  pub looked : length x.awake.items ≡ length actors
-  pub all : (v : ℕ) (w : Bool) → slice_get x.awake.items v ≡ Some w → w ≡ true
+  pub awake_many : length x.awake.items ≡ length actors
+  pub awake_all : (v : ℕ) (w : Bool) → slice_get x.awake.items v ≡ Some w → w ≡ true
   pub rows_are : x.rows ≡ rows
   pub given_is : x.given ≡ min 1 rows

@@ -37,7 +37,7 @@ pub record DecidedTo (l : Life) (k g n : ℕ) (x : FlatRun) : Type 0 where
   pub unset : AreUnset n x.went.items
   pub asleep : AreAsleep l k x.nodes.items x.awake.items
 
--- what a cycle does not change while actors decide
+-- what no half of a cycle changes
 pub record KeepsRows (old new : FlatRun) : Type 0 where
   pub rows : new.rows ≡ old.rows
   pub given : new.given ≡ old.given

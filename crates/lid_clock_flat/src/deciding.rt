@@ -1,6 +1,6 @@
 //! The first half of a cycle: the actors that are awake decide.
 
-ghost use Rattle.std.specs.Prelude.{◌≡◌, ◌<◌, ◌+◌, ℕ, Bool, length, true, Some, slice_get};
+ghost use Rattle.std.specs.Prelude.{◌≡◌, ◌<◌, ◌+◌, ℕ, length};
 ghost use Rattle.lid_clock.specs.Lives.{Life, Holds};
 ghost use Rattle.lid_clock.specs.Cycles.{held_at};
 ghost use Rattle.lid_clock.specs.States.{actors_of};
@@ -40,8 +40,10 @@ impl FlatRun {
 
     /// A mover decides, which has this number among the movers. It sleeps where it is barred.
     fn decide_at_mover(&mut self, mover: usize, source: bool, sink: bool)
-        requires { (l : Life) × (k : ℕ) × (g : ℕ) × Holds l k source sink × DecidedTo l k g (length self.old.nodes.items + mover) self.old × (mover < length self.old.movers.items) }
-        ensures is { (l : Life) (k g : ℕ) → Holds l k source sink → DecidedTo l k g (length self.old.nodes.items + mover) self.old → DecidedTo l k g (length self.old.nodes.items + mover + 1) self.new }
+        requires { (l : Life) × (k : ℕ) × (g : ℕ) × Holds l k source sink × DecidedTo l k g (length self.old.nodes.items + mover) self.old
+            × (mover < length self.old.movers.items) }
+        ensures is { (l : Life) (k g : ℕ) → Holds l k source sink → DecidedTo l k g (length self.old.nodes.items + mover) self.old
+            → DecidedTo l k g (length self.old.nodes.items + mover + 1) self.new }
         ensures kept { KeepsRows self.old self.new }
     {
         let actor = self.nodes.len() + mover;

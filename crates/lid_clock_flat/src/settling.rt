@@ -4,18 +4,17 @@ ghost use Rattle.std.specs.Prelude.{◌≡◌, ◌<◌, ◌+◌, length, Some, s
 ghost use Rattle.lid_clock_flat.specs.declared.station.FlatStation.{FlatStation};
 ghost use Rattle.lid_clock_flat.specs.declared.run.FlatRun.{FlatRun};
 ghost use Rattle.lid_clock_flat.specs.Reads.{AreThere, AreReadOnce, AllAre};
-ghost use Rattle.lid_clock_flat.specs.Ends.{CanLose, AreEndsAmong, EndSettles, EndsSettle, SettledTo, HasFired, HaveAllDecided};
+ghost use Rattle.lid_clock_flat.specs.Ends.{CanSettleEnd, AreEndsAmong, EndSettles, EndsSettle, SettledTo, HasFired, HaveAllDecided};
 
 use crate::flags::next_set;
 use crate::run::FlatRun;
-use crate::station::FlatStation;
 use crate::stations::FlatStations;
 use lid_clock::runs_go_by_rules;
 
 /// A station loses its oldest token, or else gains the one in its free place; and who stands at its other end wakes.
 fn settle_end(stations: &mut FlatStations, station: usize, loses: bool, awake: &mut Vec<bool>)
     requires there { station < length stations.old.all.items }
-    requires can { (x : FlatStation) → slice_get stations.old.all.items station ≡ Some x → CanLose loses x }
+    requires can { (x : FlatStation) → slice_get stations.old.all.items station ≡ Some x → CanSettleEnd loses x }
     requires among { AreEndsAmong (length awake.old.items) stations.old.all.items }
     ensures settles { EndSettles station loses stations.old.all.items stations.new.all.items awake.old.items awake.new.items }
     ensures kept { stations.new.places ≡ stations.old.places }
@@ -25,11 +24,11 @@ fn settle_end(stations: &mut FlatStations, station: usize, loses: bool, awake: &
     awake[other as usize] = true;
 }
 
-/// These stations do.
+/// Each of these stations settles so, one after the other.
 fn settle_ends(reads: &[u32], loses: bool, stations: &mut FlatStations, awake: &mut Vec<bool>)
     requires there { AreThere reads.now stations.old.all.items }
     requires once { AreReadOnce reads.now }
-    requires can { AllAre (CanLose loses) reads.now stations.old.all.items }
+    requires can { AllAre (CanSettleEnd loses) reads.now stations.old.all.items }
     requires among { AreEndsAmong (length awake.old.items) stations.old.all.items }
     ensures settle { EndsSettle reads.now loses (length reads.now) stations.old.all.items stations.new.all.items awake.old.items awake.new.items }
     ensures kept { stations.new.places ≡ stations.old.places }
@@ -43,7 +42,8 @@ impl FlatRun {
     /// The stations of a node that fired settle.
     fn settle_at_node(&mut self, node: usize)
         requires { (x : FlatRun) × HaveAllDecided x × SettledTo node x self.old × HasFired node x × (node < length x.nodes.items) }
-        ensures { (x : FlatRun) → HaveAllDecided x → SettledTo node x self.old → HasFired node x → node < length x.nodes.items → SettledTo (node + 1) x self.new }
+        ensures { (x : FlatRun) → HaveAllDecided x → SettledTo node x self.old → HasFired node x → node < length x.nodes.items
+            → SettledTo (node + 1) x self.new }
     {
         runs_go_by_rules();
         let actor = &self.nodes[node];
@@ -52,10 +52,12 @@ impl FlatRun {
         self.went[node] = false;
     }
 
-    /// Those of a mover that fired do, which has this number among the movers.
+    /// The stations of a mover that fired settle. It has this number among the movers.
     fn settle_at_mover(&mut self, mover: usize)
-        requires { (x : FlatRun) × HaveAllDecided x × SettledTo (length x.nodes.items + mover) x self.old × HasFired (length x.nodes.items + mover) x × (mover < length x.movers.items) }
-        ensures { (x : FlatRun) → HaveAllDecided x → SettledTo (length x.nodes.items + mover) x self.old → HasFired (length x.nodes.items + mover) x → mover < length x.movers.items
+        requires { (x : FlatRun) × HaveAllDecided x × SettledTo (length x.nodes.items + mover) x self.old
+            × HasFired (length x.nodes.items + mover) x × (mover < length x.movers.items) }
+        ensures { (x : FlatRun) → HaveAllDecided x → SettledTo (length x.nodes.items + mover) x self.old
+            → HasFired (length x.nodes.items + mover) x → mover < length x.movers.items
             → SettledTo (length x.nodes.items + mover + 1) x self.new }
     {
         runs_go_by_rules();

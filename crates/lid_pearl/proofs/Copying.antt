@@ -1,21 +1,22 @@
 -- What is known of the fields of a pearl is known of equal ones.
-use Rattle.std.proofs.Common.{◌≡◌, ◌++◌, ℕ, Bool, List, map, Result, Ok, IfOk, sym, ◌∙◌, subst}
+use Rattle.std.proofs.Common.{◌≡◌, ◌++◌, ℕ, Bool, List, map, sym, ◌∙◌, subst}
 use Rattle.std.specs.List.{AllByRecursion}
 use Rattle.lid_base.specs.Lists.{Among}
 use Rattle.lid_design.specs.declared.FlatLatch.{FlatLatch}
 use Rattle.lid_design.specs.declared.FlatCover.{FlatCover}
 use Rattle.lid_design.specs.Flat.{latch_input, IsRow, ReadEarlier}
-use Rattle.lid_strict_engine.specs.declared.program.Program.{Program}
-use Rattle.lid_strict_engine.specs.Programs.{program_covers, IsReadyProgram}
+use Rattle.lid_strict_widths.specs.declared.group.ByWidth.{ByWidth}
+use Rattle.lid_strict_widths.specs.Groups.{IsByWidth}
+use Rattle.lid_strict_engine.specs.Programs.{program_covers}
 use Rattle.lid_strict_engine.specs.Rows.{AreRightAt, known_after}
 use Rattle.lid_pearl.specs.Inside.{held, ArePearlFields}
 
-module _ (nets : ℕ) (ins outs : List ℕ) (latches : List FlatLatch) (early late early' late' : Program) (state bits : List Bool) (ready : IsReadyProgram early') (ready' : IsReadyProgram late') (same : early'.nets ≡ early.nets) (same' : late'.nets ≡ late.nets) (is : program_covers early' ≡ program_covers early) (is' : program_covers late' ≡ program_covers late) where
+module _ (nets : ℕ) (ins outs : List ℕ) (latches : List FlatLatch) (early late early' late' : ByWidth) (state bits : List Bool) (by_width : IsByWidth early') (by_width' : IsByWidth late') (same : early'.program.nets ≡ early.program.nets) (same' : late'.program.nets ≡ late.program.nets) (is : program_covers early'.program ≡ program_covers early.program) (is' : program_covers late'.program ≡ program_covers late.program) where
   pub kept_by_copies : ArePearlFields nets ins outs latches early late state bits → ArePearlFields nets ins outs latches early' late' state bits
   kept_by_copies kept = record {
+    early_is = by_width;
+    late_is = by_width';
     ordered = record {
-      early_ready = ready;
-      late_ready = ready';
       early_nets = same ∙ kept.ordered.early_nets;
       late_nets = same' ∙ kept.ordered.late_nets;
       ins_below = kept.ordered.ins_below;
@@ -24,12 +25,12 @@ module _ (nets : ℕ) (ins outs : List ℕ) (latches : List FlatLatch) (early la
       taken_below = kept.ordered.taken_below;
       early_reads = subst (ReadEarlier (held latches)) (sym is) kept.ordered.early_reads;
       late_reads =
-          subst (λ (cs : List FlatCover). ReadEarlier (ins ++ known_after (held latches) cs) (program_covers late')) (sym is)
-          (subst (ReadEarlier (ins ++ known_after (held latches) (program_covers early))) (sym is') kept.ordered.late_reads);
+          subst (λ (cs : List FlatCover). ReadEarlier (ins ++ known_after (held latches) cs) (program_covers late'.program)) (sym is)
+          (subst (ReadEarlier (ins ++ known_after (held latches) (program_covers early.program))) (sym is') kept.ordered.late_reads);
       outs_early = subst (λ (cs : List FlatCover). AllByRecursion (λ k. Among k (known_after (held latches) cs)) outs) (sym is) kept.ordered.outs_early;
       taken_known =
-          subst (λ (cs : List FlatCover). AllByRecursion (λ k. Among k (known_after (ins ++ known_after (held latches) cs) (program_covers late'))) (map latch_input latches)) (sym is)
-          (subst (λ (cs : List FlatCover). AllByRecursion (λ k. Among k (known_after (ins ++ known_after (held latches) (program_covers early)) cs)) (map latch_input latches)) (sym is') kept.ordered.taken_known);
+          subst (λ (cs : List FlatCover). AllByRecursion (λ k. Among k (known_after (ins ++ known_after (held latches) cs) (program_covers late'.program))) (map latch_input latches)) (sym is)
+          (subst (λ (cs : List FlatCover). AllByRecursion (λ k. Among k (known_after (ins ++ known_after (held latches) (program_covers early.program)) cs)) (map latch_input latches)) (sym is') kept.ordered.taken_known);
     };
     state_size = kept.state_size;
     size = kept.size;
@@ -45,6 +46,3 @@ module _ (nets : ℕ) (ins outs : List ℕ) (latches : List FlatLatch) (early la
         (subst (λ (x : List FlatLatch). ArePearlFields nets ins outs x early' late' state' bits') (sym l)
         (subst (λ (x : List Bool). ArePearlFields nets ins outs latches early' late' x bits') (sym s)
         (subst (λ (x : List Bool). ArePearlFields nets ins outs latches early' late' state x) (sym b) (kept_by_copies kept))))))
-
-pub of_ok : {A E : Type 0} (P : A → Type 0) (r : Result A E) (x : A) → r ≡ Ok x → IfOk r P → P x
-of_ok {A} {E} P r x is holds = subst (λ (r : Result A E). IfOk r P) is holds

@@ -1,5 +1,5 @@
 -- The programs of a pearl run its covers in an order in which each reads what is known.
-use Rattle.std.proofs.Common.{◌≡◌, ℕ, ◌+◌, ◌<◌, Bool, true, false, List, [], ◌++◌, map, refl, sym, subst, arith}
+use Rattle.std.proofs.Common.{◌≡◌, ℕ, ◌<◌, Bool, true, false, List, [], ◌++◌, map, refl, sym, subst}
 use Rattle.std.specs.List.{AllByRecursion}
 use Rattle.lid_base.specs.Lists.{Among}
 use Rattle.lid_base.proofs.Lists.{all_among, map_among}
@@ -8,7 +8,7 @@ use Rattle.lid_design.specs.declared.FlatLatch.{FlatLatch}
 use Rattle.lid_design.specs.declared.FlatCover.{FlatCover}
 use Rattle.lid_design.specs.Flat.{latch_out, latch_input, ReadEarlier, IsFlat}
 use Rattle.lid_strict_engine.specs.declared.program.Program.{Program}
-use Rattle.lid_strict_engine.specs.Programs.{program_covers, IsReadyProgram}
+use Rattle.lid_strict_engine.specs.Programs.{program_covers}
 use Rattle.lid_strict_engine.specs.Rows.{known_after}
 use Rattle.lid_pearl.specs.Pearls.{IsSplit}
 use Rattle.lid_pearl.specs.Inside.{held, IsOrdered, AreKnownMarks}
@@ -17,9 +17,6 @@ use Rattle.lid_pearl.proofs.Reordering.{split_of, early_earlier, late_earlier, o
 use Rattle.lid_base.proofs.Alls.{all_from_among}
 
 module _ (f : Flat) (flat : IsFlat f) where
-  below_more : (ks : List ℕ) → AllByRecursion (λ k. k < f.nets) ks → AllByRecursion (λ k. k < f.nets + 1) ks
-  below_more ks all = all_from_among (λ k. k < f.nets + 1) ks (λ k among. (let h : k < f.nets = all_among (λ k. k < f.nets) ks k all among in omega arith))
-
   latch_below : (latch : FlatLatch) → Among latch f.latches → (latch.input < f.nets) × (latch.out < f.nets)
   latch_below latch among = all_among (λ (latch : FlatLatch). (latch.input < f.nets) × (latch.out < f.nets)) f.latches latch flat.below.latches among
 
@@ -29,11 +26,11 @@ module _ (f : Flat) (flat : IsFlat f) where
   taken_small : (k : ℕ) → Among k (map latch_input f.latches) → k < f.nets
   taken_small k among = let found = map_among {A = FlatLatch} {B = ℕ} latch_input k f.latches among in subst (λ (k : ℕ). k < f.nets) (sym found.2) (latch_below found.0 found.1).0
 
-  pub held_below : AllByRecursion (λ k. k < f.nets + 1) (held f.latches)
-  held_below = all_from_among (λ k. k < f.nets + 1) (held f.latches) (λ k among. (let h : k < f.nets = held_small k among in omega arith))
+  pub held_below : AllByRecursion (λ k. k < f.nets) (held f.latches)
+  held_below = all_from_among (λ k. k < f.nets) (held f.latches) held_small
 
-  taken_below : AllByRecursion (λ k. k < f.nets + 1) (map latch_input f.latches)
-  taken_below = all_from_among (λ k. k < f.nets + 1) (map latch_input f.latches) (λ k among. (let h : k < f.nets = taken_small k among in omega arith))
+  taken_below : AllByRecursion (λ k. k < f.nets) (map latch_input f.latches)
+  taken_below = all_from_among (λ k. k < f.nets) (map latch_input f.latches) taken_small
 
   -- where only latches are marked, no cover is
   pub latches_marked : (mark : ℕ → Bool) → ((k : ℕ) → Among k (held f.latches) → mark k ≡ true) → ((k : ℕ) → mark k ≡ true → Among k (held f.latches)) → AreKnownMarks f [] mark
@@ -44,14 +41,12 @@ module _ (f : Flat) (flat : IsFlat f) where
       by k among false e = refl
 
   module _ (m : ℕ → Bool) (marks : AreKnownMarks f f.covers m) (early late : Program) (early_is : program_covers early ≡ early_of m f.covers) (late_is : program_covers late ≡ late_of m f.covers) where
-    pub is_ordered : IsReadyProgram early → IsReadyProgram late → early.nets ≡ f.nets → late.nets ≡ f.nets → IsOrdered f.nets f.ins f.outs f.latches early late
-    is_ordered ready ready' nets nets' = record {
-      early_ready = ready;
-      late_ready = ready';
+    pub is_ordered : early.nets ≡ f.nets → late.nets ≡ f.nets → IsOrdered f.nets f.ins f.outs f.latches early late
+    is_ordered nets nets' = record {
       early_nets = nets;
       late_nets = nets';
-      ins_below = below_more f.ins flat.below.ins;
-      outs_below = below_more f.outs flat.below.outs;
+      ins_below = flat.below.ins;
+      outs_below = flat.below.outs;
       held_below = held_below;
       taken_below = taken_below;
       early_reads = subst (ReadEarlier (held f.latches)) (sym early_is) (early_earlier f flat m marks);

@@ -1,6 +1,6 @@
 -- How a pearl is kept: covers that no input leads to are run early, for the present state, and the
 -- others late, once the inputs are known.
-use Rattle.std.specs.Prelude.{◌≡◌, ◌<◌, ◌+◌, ◌++◌, ℕ, Bool, true, false, List, length, map}
+use Rattle.std.specs.Prelude.{◌≡◌, ◌<◌, ◌++◌, ℕ, Bool, true, false, List, length, map}
 use Rattle.std.specs.List.{AllByRecursion, list_all}
 use Rattle.lid_base.specs.Lists.{Among}
 use Rattle.lid_cover.specs.Cover.{same_bit}
@@ -10,8 +10,10 @@ use Rattle.lid_design.specs.declared.FlatCover.{FlatCover}
 use Rattle.lid_design.specs.Feeds.{EdgesLead}
 use Rattle.lid_design.specs.Flat.{flat_drivers, latch_out, latch_input, ReadEarlier, IsRow}
 use Rattle.lid_strict_engine.specs.declared.program.Program.{Program}
-use Rattle.lid_strict_engine.specs.Programs.{program_covers, IsReadyProgram}
+use Rattle.lid_strict_engine.specs.Programs.{program_covers}
 use Rattle.lid_strict_engine.specs.Rows.{AreRightAt, known_after}
+use Rattle.lid_strict_widths.specs.declared.group.ByWidth.{ByWidth}
+use Rattle.lid_strict_widths.specs.Groups.{IsByWidth}
 
 -- the nets that the latches give
 abbrev pub held : List FlatLatch → List ℕ
@@ -24,16 +26,14 @@ early_nets latches early = known_after (held latches) (program_covers early)
 abbrev pub late_nets : List ℕ → List FlatLatch → Program → Program → List ℕ
 late_nets ins latches early late = known_after (ins ++ early_nets latches early) (program_covers late)
 
--- the nets of a pearl have bits, and each cover reads what is known when it is run
+-- the nets of a pearl are below their number, and each cover reads what is known when it is run
 pub record IsOrdered (nets : ℕ) (ins outs : List ℕ) (latches : List FlatLatch) (early late : Program) : Type 0 where
-  pub early_ready : IsReadyProgram early
-  pub late_ready : IsReadyProgram late
   pub early_nets : early.nets ≡ nets
   pub late_nets : late.nets ≡ nets
-  pub ins_below : AllByRecursion (λ k. k < nets + 1) ins
-  pub outs_below : AllByRecursion (λ k. k < nets + 1) outs
-  pub held_below : AllByRecursion (λ k. k < nets + 1) (held latches)
-  pub taken_below : AllByRecursion (λ k. k < nets + 1) (map latch_input latches)
+  pub ins_below : AllByRecursion (λ k. k < nets) ins
+  pub outs_below : AllByRecursion (λ k. k < nets) outs
+  pub held_below : AllByRecursion (λ k. k < nets) (held latches)
+  pub taken_below : AllByRecursion (λ k. k < nets) (map latch_input latches)
   pub early_reads : ReadEarlier (held latches) (program_covers early)
   pub late_reads : ReadEarlier (ins ++ known_after (held latches) (program_covers early)) (program_covers late)
   pub outs_early : AllByRecursion (λ k. Among k (known_after (held latches) (program_covers early))) outs
@@ -45,11 +45,13 @@ AreSettled latches early state bits =
     (f : ℕ → Bool) → IsRow (program_covers early) f → map f (held latches) ≡ state → AreRightAt f (early_nets latches early) bits
 
 -- what is known of the fields of a pearl
-pub record ArePearlFields (nets : ℕ) (ins outs : List ℕ) (latches : List FlatLatch) (early late : Program) (state bits : List Bool) : Type 0 where
-  pub ordered : IsOrdered nets ins outs latches early late
+pub record ArePearlFields (nets : ℕ) (ins outs : List ℕ) (latches : List FlatLatch) (early late : ByWidth) (state bits : List Bool) : Type 0 where
+  pub early_is : IsByWidth early
+  pub late_is : IsByWidth late
+  pub ordered : IsOrdered nets ins outs latches early.program late.program
   pub state_size : length state ≡ length latches
-  pub size : length bits ≡ nets + 1
-  pub settled : AreSettled latches early state bits
+  pub size : length bits ≡ nets
+  pub settled : AreSettled latches early.program state bits
 
 -- an input leads to the net
 abbrev pub IsFromInput : Flat → ℕ → Type 0

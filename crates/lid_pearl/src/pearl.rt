@@ -3,15 +3,15 @@
 ghost use Rattle.std.specs.Prelude.{◌≡◌, ◌<◌, ◌+◌, ◌++◌, ℕ, Bool, List, length, map, IfOk};
 ghost use Rattle.std.specs.List.{AllByRecursion};
 ghost use Rattle.lid_design.specs.Flat.{latch_init, latch_input, IsFlat, IsRow, ReadEarlier};
-ghost use Rattle.lid_strict_engine.specs.Programs.{program_covers, IsReadyProgram};
+ghost use Rattle.lid_strict_engine.specs.Programs.{program_covers};
+ghost use Rattle.lid_strict_widths.specs.Groups.{IsByWidth};
 ghost use Rattle.lid_pearl.specs.Pearls.{IsSplit};
 ghost use Rattle.lid_pearl.specs.Inside.{held, AreSettled, IsOrdered, ArePearlFields};
 
 use crate::split::{find_marks, lay_out};
 use lid_design::{Flat, FlatLatch};
-use lid_strict_engine::{
-    Program, copy_of, first_state, put_bits, put_state, settle, take_bits, take_state,
-};
+use lid_strict_engine::{copy_of, first_state, put_bits, put_state, take_bits, take_state};
+use lid_strict_widths::{ByWidth, settle_by_width};
 use std::alloc::{AllocError, Global};
 use std::marker::Model;
 
@@ -24,11 +24,11 @@ struct Shape {
     latches: Vec<FlatLatch>,
 }
 
-/// The covers of a pearl. No input leads to the early ones, which are run for the state alone.
+/// The covers of a pearl, by level and width. No input leads to the early ones, which are run for the state alone.
 #[derive(Drop)]
 struct Plan {
-    early: Program,
-    late: Program,
+    early: ByWidth,
+    late: ByWidth,
 }
 
 /// The bits that the latches hold, and those of the nets: of early nets those of the present state.
@@ -54,7 +54,7 @@ impl Model for Pearl {
 
     ghost Value = { View };
 
-    ghost view = { λ p. record { flat = record { nets = p.shape.nets; ins = p.shape.ins.items; outs = p.shape.outs.items; latches = p.shape.latches.items; covers = program_covers p.plan.early ++ program_covers p.plan.late }; state = p.row.state.items } };
+    ghost view = { λ p. record { flat = record { nets = p.shape.nets; ins = p.shape.ins.items; outs = p.shape.outs.items; latches = p.shape.latches.items; covers = program_covers p.plan.early.program ++ program_covers p.plan.late.program }; state = p.row.state.items } };
 
     ghost invariant = { λ p. ArePearlFields p.shape.nets p.shape.ins.items p.shape.outs.items p.shape.latches.items p.plan.early p.plan.late p.row.state.items p.row.bits.items };
 }
@@ -131,17 +131,17 @@ impl Pearl {
 }
 
 /// Gives early nets the bits of a state.
-fn settle_state(latches: &[FlatLatch], early: &Program, state: &[bool], bits: &mut [bool])
-    requires ready { IsReadyProgram early.now }
-    requires below { AllByRecursion (λ k. k < early.now.nets + 1) (held latches.now) }
-    requires reads { ReadEarlier (held latches.now) (program_covers early.now) }
+fn settle_state(latches: &[FlatLatch], early: &ByWidth, state: &[bool], bits: &mut [bool])
+    requires is { IsByWidth early.now }
+    requires below { AllByRecursion (λ k. k < early.now.program.nets) (held latches.now) }
+    requires reads { ReadEarlier (held latches.now) (program_covers early.now.program) }
     requires long { length state.now ≡ length latches.now }
-    requires size { length bits.old ≡ early.now.nets + 1 }
+    requires size { length bits.old ≡ early.now.program.nets }
     ensures size { length bits.new ≡ length bits.old }
-    ensures settled { AreSettled latches.now early.now state.now bits.new }
+    ensures settled { AreSettled latches.now early.now.program state.now bits.new }
 {
     put_state(bits, latches, state);
-    settle(early, bits);
+    settle_by_width(early, bits);
 }
 
 /// Goes on by a row: runs the late covers, takes the new state, settles it, and writes the outputs.
@@ -157,15 +157,15 @@ fn run(
     requires inputs { length inputs.now ≡ length shape.now.ins.items }
     requires outs { length into.old ≡ length shape.now.outs.items }
     ensures kept { ArePearlFields shape.now.nets shape.now.ins.items shape.now.outs.items shape.now.latches.items plan.now.early plan.now.late state.new bits.new }
-    ensures state { (f : ℕ → Bool) → IsRow (program_covers plan.now.early) f → IsRow (program_covers plan.now.late) f
+    ensures state { (f : ℕ → Bool) → IsRow (program_covers plan.now.early.program) f → IsRow (program_covers plan.now.late.program) f
         → map f (held shape.now.latches.items) ≡ state.old → map f shape.now.ins.items ≡ inputs.now
         → state.new ≡ map f (map latch_input shape.now.latches.items) }
-    ensures outs { (f : ℕ → Bool) → IsRow (program_covers plan.now.early) f → map f (held shape.now.latches.items) ≡ state.new
+    ensures outs { (f : ℕ → Bool) → IsRow (program_covers plan.now.early.program) f → map f (held shape.now.latches.items) ≡ state.new
         → into.new ≡ map f shape.now.outs.items }
 {
     let latches = shape.latches.as_slice();
     put_bits(bits, shape.ins.as_slice(), inputs);
-    settle(&plan.late, bits);
+    settle_by_width(&plan.late, bits);
     take_state(bits, latches, state);
     settle_state(latches, &plan.early, state, bits);
     take_bits(bits, shape.outs.as_slice(), into);
@@ -195,12 +195,14 @@ fn shape_of(
     })
 }
 
-/// The covers of a flat part, early and late ones.
+/// The covers of a flat part, early and late ones, by level and width.
 fn plan_of(alloc: Global, flat: &Flat) -> Result<Plan, AllocError>
     requires { IsFlat flat.now }
-    ensures ordered { IfOk result (λ plan. IsOrdered flat.now.nets flat.now.ins flat.now.outs flat.now.latches plan.early plan.late) }
-    ensures split { IfOk result (λ plan. IsSplit flat.now.covers (program_covers plan.early) (program_covers plan.late)) }
-    ensures rules { IfOk result (λ plan. ReadEarlier (flat.now.ins ++ held flat.now.latches) (program_covers plan.early ++ program_covers plan.late)) }
+    ensures is { IfOk result (λ plan. IsByWidth plan.early × IsByWidth plan.late) }
+    ensures ordered { IfOk result (λ plan. IsOrdered flat.now.nets flat.now.ins flat.now.outs flat.now.latches plan.early.program plan.late.program) }
+    ensures split { IfOk result (λ plan. IsSplit flat.now.covers (program_covers plan.early.program) (program_covers plan.late.program)) }
+    ensures rules { IfOk result (λ plan. ReadEarlier (flat.now.ins ++ held flat.now.latches)
+        (program_covers plan.early.program ++ program_covers plan.late.program)) }
 {
     let marks = find_marks(alloc, flat)?;
     let early = lay_out(alloc, flat, marks.as_slice(), true)?;
@@ -209,27 +211,29 @@ fn plan_of(alloc: Global, flat: &Flat) -> Result<Plan, AllocError>
 }
 
 /// The bits of a flat part as it begins.
-fn first_row(alloc: Global, flat: &Flat, early: &Program) -> Result<Row, AllocError>
-    requires nets { early.now.nets ≡ flat.now.nets }
-    requires ready { IsReadyProgram early.now }
+fn first_row(alloc: Global, flat: &Flat, early: &ByWidth) -> Result<Row, AllocError>
+    requires nets { early.now.program.nets ≡ flat.now.nets }
+    requires is { IsByWidth early.now }
     requires rules { IsFlat flat.now }
-    requires reads { ReadEarlier (held flat.now.latches) (program_covers early.now) }
+    requires reads { ReadEarlier (held flat.now.latches) (program_covers early.now.program) }
     ensures state { IfOk result (λ row. row.state.items ≡ map latch_init flat.now.latches) }
-    ensures size { IfOk result (λ row. length row.bits.items ≡ flat.now.nets + 1) }
-    ensures settled { IfOk result (λ row. AreSettled flat.now.latches early.now row.state.items row.bits.items) }
+    ensures size { IfOk result (λ row. length row.bits.items ≡ flat.now.nets) }
+    ensures settled { IfOk result (λ row. AreSettled flat.now.latches early.now.program row.state.items row.bits.items) }
 {
     let latches = flat.latches.as_slice();
     let state = first_state(alloc, latches)?;
-    let mut bits = Vec::from_elem(alloc, false, flat.nets as usize + 1)?;
+    let mut bits = Vec::from_elem(alloc, false, flat.nets as usize)?;
     settle_state(latches, early, state.as_slice(), bits.as_mut_slice());
     Ok(Row { state, bits })
 }
 
 /// Equal covers.
 fn copy_plan(plan: &Plan) -> Result<Plan, AllocError>
-    ensures ready { IsReadyProgram plan.now.early → IsReadyProgram plan.now.late → IfOk result (λ copy. IsReadyProgram copy.early × IsReadyProgram copy.late) }
-    ensures nets { IfOk result (λ copy. (copy.early.nets ≡ plan.now.early.nets) × (copy.late.nets ≡ plan.now.late.nets)) }
-    ensures shown { IfOk result (λ copy. (program_covers copy.early ≡ program_covers plan.now.early) × (program_covers copy.late ≡ program_covers plan.now.late)) }
+    requires { IsByWidth plan.now.early × IsByWidth plan.now.late }
+    ensures is { IfOk result (λ copy. IsByWidth copy.early × IsByWidth copy.late) }
+    ensures nets { IfOk result (λ copy. (copy.early.program.nets ≡ plan.now.early.program.nets) × (copy.late.program.nets ≡ plan.now.late.program.nets)) }
+    ensures early { IfOk result (λ copy. program_covers copy.early.program ≡ program_covers plan.now.early.program) }
+    ensures late { IfOk result (λ copy. program_covers copy.late.program ≡ program_covers plan.now.late.program) }
 {
     let early = plan.early.copy()?;
     let late = plan.late.copy()?;

@@ -4,12 +4,14 @@ ghost use Rattle.std.specs.Prelude.{◌≡◌, ◌<◌, ◌+◌, ℕ, true, fals
 ghost use Rattle.std.specs.List.{AllByRecursion, list_all};
 ghost use Rattle.lid_base.specs.Lists.{Among};
 ghost use Rattle.lid_design.specs.Flat.{IsFlat, IsFlatCover};
-ghost use Rattle.lid_strict_engine.specs.Programs.{program_covers, IsProgram, IsReadyProgram};
+ghost use Rattle.lid_strict_engine.specs.Programs.{program_covers, IsProgram};
 ghost use Rattle.lid_strict_engine.specs.Rows.{bit_at};
+ghost use Rattle.lid_strict_widths.specs.Groups.{IsByWidth};
 ghost use Rattle.lid_pearl.specs.Inside.{held, is_picked, AreKnownMarks};
 
 use lid_design::{Flat, FlatCover, FlatLatch};
 use lid_strict_engine::Program;
+use lid_strict_widths::{ByWidth, by_level, by_width};
 use std::alloc::{AllocError, Global};
 
 /// Whether all of some nets are marked.
@@ -49,7 +51,7 @@ fn mark_cover(marks: &mut [bool], cover: &FlatCover)
 /// Marks what is known in a state, where latches are marked: the output of each cover that reads marked
 /// nets alone.
 fn mark_covers(marks: &mut [bool], flat: &Flat)
-    requires size { length marks.old ≡ flat.now.nets + 1 }
+    requires size { length marks.old ≡ flat.now.nets }
     requires rules { IsFlat flat.now }
     requires held { AreKnownMarks flat.now [] (bit_at marks.old) }
     ensures size { length marks.new ≡ length marks.old }
@@ -63,7 +65,7 @@ fn mark_covers(marks: &mut [bool], flat: &Flat)
 
 /// Marks what is known in a state, where no net is marked.
 fn mark(marks: &mut [bool], flat: &Flat)
-    requires size { length marks.old ≡ flat.now.nets + 1 }
+    requires size { length marks.old ≡ flat.now.nets }
     requires none { (k : ℕ) → bit_at marks.old k ≡ false }
     requires rules { IsFlat flat.now }
     ensures size { length marks.new ≡ length marks.old }
@@ -76,10 +78,10 @@ fn mark(marks: &mut [bool], flat: &Flat)
 /// The marks of what is known in a state.
 pub fn find_marks(alloc: Global, flat: &Flat) -> Result<Vec<bool>, AllocError>
     requires { IsFlat flat.now }
-    ensures size { IfOk result (λ marks. length marks.items ≡ flat.now.nets + 1) }
+    ensures size { IfOk result (λ marks. length marks.items ≡ flat.now.nets) }
     ensures marked { IfOk result (λ marks. AreKnownMarks flat.now flat.now.covers (bit_at marks.items)) }
 {
-    let mut marks = Vec::from_elem(alloc, false, flat.nets as usize + 1)?;
+    let mut marks = Vec::from_elem(alloc, false, flat.nets as usize)?;
     mark(marks.as_mut_slice(), flat);
     Ok(marks)
 }
@@ -96,26 +98,26 @@ fn is_wanted(marks: &[bool], cover: &FlatCover, wanted: bool) -> bool
     }
 }
 
-/// Lays out the covers whose outputs are marked, or those whose outputs are not.
+/// Lays out the covers whose outputs are marked, or those whose outputs are not, by level and width.
 pub fn lay_out(
     alloc: Global,
     flat: &Flat,
     marks: &[bool],
     wanted: bool,
-) -> Result<Program, AllocError>
-    requires size { length marks.now ≡ flat.now.nets + 1 }
+) -> Result<ByWidth, AllocError>
+    requires size { length marks.now ≡ flat.now.nets }
     requires rules { IsFlat flat.now }
-    ensures ready { IfOk result IsReadyProgram }
-    ensures nets { IfOk result (λ program. program.nets ≡ flat.now.nets) }
-    ensures shown { IfOk result (λ program. program_covers program ≡ filter (is_picked (bit_at marks.now) wanted) flat.now.covers) }
+    ensures is { IfOk result IsByWidth }
+    ensures nets { IfOk result (λ x. x.program.nets ≡ flat.now.nets) }
+    ensures shown { IfOk result (λ x. program_covers x.program ≡ filter (is_picked (bit_at marks.now) wanted) flat.now.covers) }
 {
     let mut program = Program::new(alloc, flat.nets);
     let covers = flat.covers.as_slice();
     for i in 0..covers.len() {
         push_if(&mut program, &covers[i], marks, wanted)?;
     }
-    program.finish()?;
-    Ok(program)
+    let order = by_level(&program)?;
+    by_width(program, order)
 }
 
 /// Adds a cover where its output is marked, or is not, as wanted.
@@ -125,11 +127,11 @@ fn push_if(
     marks: &[bool],
     wanted: bool,
 ) -> Result<(), AllocError>
-    requires laid { IsProgram 0 program.old }
+    requires laid { IsProgram program.old }
     requires rules { IsFlatCover cover.now }
     requires below { AllByRecursion (λ k. k < program.old.nets) cover.now.ins × (cover.now.out < program.old.nets) }
-    requires size { length marks.now ≡ program.old.nets + 1 }
-    ensures laid { OnOk result (IsProgram 0 program.new) }
+    requires size { length marks.now ≡ program.old.nets }
+    ensures laid { OnOk result (IsProgram program.new) }
     ensures nets { program.new.nets ≡ program.old.nets }
     ensures shown { OnOk result (program_covers program.new ≡ program_covers program.old ++ filter (is_picked (bit_at marks.now) wanted) (cover.now ∷ [])) }
 {

@@ -1,14 +1,9 @@
 -- A run goes on by a row.
-use Rattle.std.proofs.Common.{◌≡◌, ◌<◌, ◌+◌, ℕ, zero, suc, Bool, List, [], ◌∷◌, ◌++◌, length, map, slice_index_or, Result, Ok, Err, IfOk, refl, sym, ◌∙◌, ap, subst, arith, add-zero}
+use Rattle.std.proofs.Common.{◌≡◌, ◌<◌, ◌+◌, ℕ, zero, suc, Bool, List, [], ◌∷◌, ◌++◌, length, map, slice_index_or, refl, sym, ◌∙◌, ap, subst, arith, add-zero}
 use Rattle.std.specs.List.{AllByRecursion}
 use Rattle.lid_base.specs.Each.{from_each}
-use Rattle.lid_base.specs.Lists.{Among}
-use Rattle.lid_design.specs.declared.FlatCover.{FlatCover}
-use Rattle.lid_design.specs.Flat.{IsRow, ReadEarlier, latch_input}
-use Rattle.lid_strict_engine.specs.declared.program.Program.{Program}
-use Rattle.lid_strict_engine.specs.Programs.{program_covers}
-use Rattle.lid_strict_engine.specs.Rows.{bit_at, known_after}
-use Rattle.lid_strict_widths.specs.Orders.{ServesFor}
+use Rattle.lid_design.specs.Flat.{latch_input}
+use Rattle.lid_strict_engine.specs.Rows.{bit_at}
 use Rattle.lid_strict.specs.Networks.{rows_at}
 use Rattle.lid_strict.specs.Layouts.{held_bits, FitsRow, IsStrictRun}
 use Rattle.lid_strict.specs.declared.layout.Layout.{Layout}
@@ -42,17 +37,3 @@ runs_next p outs rows t state state' bits row out results taken below h same_row
     fit =
         subst (λ (r : List Bool). FitsRow p r state (b t)) (sym same_row)
         (subst (λ (s : List Bool). FitsRow p (slice_index_or rows t []) s (b t)) (sym (run b fits).0) (fits t h))
-
-pub if_ok : {A E : Type 0} (P Q : A → Type 0) → ((x : A) → P x → Q x) → (r : Result A E) → IfOk r P → IfOk r Q
-if_ok P Q f (Ok x) h = f x h
-if_ok P Q f (Err e) h = tt
-
--- what serves a program serves each that has its covers
-pub serves_same : (p same q : Program) → program_covers same ≡ program_covers p → ServesFor same q → ServesFor p q
-serves_same p same q is serves f known row earlier =
-    let stands = serves f known (subst (λ (cs : List FlatCover). IsRow cs f) (sym is) row) (subst (ReadEarlier known) (sym is) earlier) in
-    record {
-      row = stands.row;
-      earlier = stands.earlier;
-      all = λ k among. stands.all k (subst (λ (cs : List FlatCover). Among k (known_after known cs)) (sym is) among);
-    }

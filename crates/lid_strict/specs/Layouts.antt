@@ -7,11 +7,10 @@ use Rattle.lid_design.specs.declared.FlatCover.{FlatCover}
 use Rattle.lid_design.specs.Network.{Driver, from_input, from_latch, from_cover, from_connection, Table}
 use Rattle.lid_design.specs.Flat.{latch_out, latch_input, latch_init, ReadEarlier, IsRow}
 use Rattle.lid_check_parts.specs.Inner.{latches_of, driver_covers}
-use Rattle.lid_strict_engine.specs.Programs.{program_covers, IsReadyProgram}
+use Rattle.lid_strict_engine.specs.Programs.{program_covers, IsProgram}
 use Rattle.lid_strict_engine.specs.Rows.{bit_at, known_after}
 use Rattle.lid_strict_widths.specs.declared.group.ByWidth.{ByWidth}
 use Rattle.lid_strict_widths.specs.Groups.{IsByWidth}
-use Rattle.lid_strict_widths.specs.Orders.{ServesFor}
 use Rattle.lid_strict.specs.Networks.{rows_at}
 use Rattle.lid_strict.specs.declared.layout.Layout.{Layout}
 
@@ -47,7 +46,7 @@ network_covers network order = flat_map (λ k. driver_covers k (driver_at networ
 
 -- the layout of a network in an order
 pub record IsLaidOut (network : List (Driver ℕ)) (order : List ℕ) (p : Layout) : Type 0 where
-  pub ready : IsReadyProgram p.program
+  pub ready : IsProgram p.program
   pub nets : p.program.nets ≡ length network
   pub covers : program_covers p.program ≡ network_covers network order
   pub ins : p.ins.items ≡ nets_in network order
@@ -60,7 +59,7 @@ known_first p = p.ins.items ++ (map latch_out p.latches.items ++ [])
 
 -- each cover reads what is known when it is run, and all numbers are known in the end
 pub record IsRunnable (p : Layout) : Type 0 where
-  pub ready : IsReadyProgram p.program
+  pub ready : IsProgram p.program
   pub ins : AllByRecursion (λ k. k < p.program.nets) p.ins.items
   pub held : AllByRecursion (λ k. k < p.program.nets) (map latch_out p.latches.items)
   pub taken : AllByRecursion (λ k. k < p.program.nets) (map latch_input p.latches.items)
@@ -68,11 +67,11 @@ pub record IsRunnable (p : Layout) : Type 0 where
   pub earlier : ReadEarlier (known_first p) (program_covers p.program)
   pub all : (k : ℕ) → k < p.program.nets → Among k (known_after (known_first p) (program_covers p.program))
 
--- what runs in place of the program of a layout
+-- what runs the program of a layout
 pub record IsEngineOf (p : Layout) (x : ByWidth) : Type 0 where
   pub is : IsByWidth x
   pub nets : x.program.nets ≡ p.program.nets
-  pub serves : ServesFor p.program x.program
+  pub covers : program_covers x.program ≡ program_covers p.program
 
 -- the bits that latches hold in a row: first those that they begin with, later those of their inputs in
 -- the row before

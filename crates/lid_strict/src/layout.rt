@@ -59,13 +59,12 @@ pub fn lay_out(
         let driver = &drivers[*number as usize];
         push_driver(&mut layout, &plain, design, *number, driver)?;
     }
-    layout.program.finish()?;
     Ok(layout)
 }
 
 /// A layout of nothing, for so many numbers.
 fn no_layout(alloc: Global, size: usize) -> Result<Layout, AllocError>
-    ensures program { IfOk result (λ layout. IsProgram 0 layout.program) }
+    ensures program { IfOk result (λ layout. IsProgram layout.program) }
     ensures nets { IfOk result (λ layout. layout.program.nets ≡ size) }
     ensures covers { IfOk result (λ layout. program_covers layout.program ≡ []) }
     ensures ins { IfOk result (λ layout. layout.ins.items ≡ []) }
@@ -109,11 +108,11 @@ fn push_driver(
 ) -> Result<(), AllocError>
     requires buffer { plain.now.buffer ≡ buffer }
     requires none { plain.now.none ≡ no_cover }
-    requires program { IsProgram 0 layout.old.program }
+    requires program { IsProgram layout.old.program }
     requires number { number < layout.old.program.nets }
     requires reads { AllByRecursion (λ k. k < layout.old.program.nets) (read_now (shown_driver design.now driver.now)) }
     requires cover { HasCover design.now driver.now }
-    ensures program { OnOk result (IsProgram 0 layout.new.program) }
+    ensures program { OnOk result (IsProgram layout.new.program) }
     ensures nets { OnOk result (layout.new.program.nets ≡ layout.old.program.nets) }
     ensures covers { OnOk result (program_covers layout.new.program ≡ program_covers layout.old.program
         ++ driver_covers number (shown_driver design.now driver.now)) }

@@ -6,7 +6,7 @@ ghost use Rattle.lid_design.specs.Network.{Table, IsStrict};
 ghost use Rattle.lid_design.specs.Flat.{latch_init, latch_input};
 ghost use Rattle.lid_check_digraph.specs.Graphs.{IsOrder};
 ghost use Rattle.lid_check_elab.specs.Elaborations.{shown_driver};
-ghost use Rattle.lid_strict_engine.specs.Programs.{IsReadyProgram};
+ghost use Rattle.lid_strict_engine.specs.Programs.{IsProgram};
 ghost use Rattle.lid_strict_engine.specs.Rows.{bit_at};
 ghost use Rattle.lid_check_parts.specs.Parts.{HasCover};
 ghost use Rattle.lid_strict.specs.Networks.{driver_list, reads_of, AreHeldBelow, rows_at};
@@ -50,11 +50,12 @@ fn gather(alloc: Global, bits: &[bool], numbers: &[u32]) -> Result<Items<bool>, 
 
 /// The program of a layout as it is run: by level and width.
 fn engine_of(layout: &Layout) -> Result<ByWidth, AllocError>
-    requires { IsReadyProgram layout.now.program }
+    requires { IsProgram layout.now.program }
     ensures { IfOk result (IsEngineOf layout.now) }
 {
     let program = layout.program.copy()?;
-    by_width(by_level(program)?)
+    let order = by_level(&program)?;
+    by_width(program, order)
 }
 
 /// Fills the bits of a row, from what latches hold, and moves that on. It is compiled by itself, since
@@ -72,10 +73,10 @@ fn run_row(
     requires engine { IsEngineOf layout.now engine.now }
     requires state { length state.old ≡ length layout.now.latches.items }
     requires inputs { length inputs.old ≡ length layout.now.places.items }
-    requires bits { length bits.old ≡ layout.now.program.nets + 1 }
+    requires bits { length bits.old ≡ layout.now.program.nets }
     ensures state_size { length state.new ≡ length layout.now.latches.items }
     ensures inputs_size { length inputs.new ≡ length layout.now.places.items }
-    ensures bits_size { length bits.new ≡ layout.now.program.nets + 1 }
+    ensures bits_size { length bits.new ≡ layout.now.program.nets }
     ensures state { state.new ≡ map (bit_at bits.new) (map latch_input layout.now.latches.items) }
     ensures bits { (f : ℕ → Bool) → FitsRow layout.now row.now state.old f → (k : ℕ) → k < layout.now.program.nets → bit_at bits.new k ≡ f k }
 {
@@ -156,7 +157,7 @@ fn run_layout(
 {
     let mut state = first_state(alloc, run.layout.latches.as_slice())?;
     let mut inputs = Vec::from_elem(alloc, false, run.layout.places.len())?;
-    let mut bits = Vec::from_elem(alloc, false, run.layout.program.nets as usize + 1)?;
+    let mut bits = Vec::from_elem(alloc, false, run.layout.program.nets as usize)?;
     run_rows(
         alloc,
         run,
@@ -182,7 +183,7 @@ fn run_rows(
     requires outs { AllByRecursion (λ k. k < run.layout.now.program.nets) run.outs.now }
     requires state { state.old ≡ map latch_init run.layout.now.latches.items }
     requires inputs { length inputs.old ≡ length run.layout.now.places.items }
-    requires bits { length bits.old ≡ run.layout.now.program.nets + 1 }
+    requires bits { length bits.old ≡ run.layout.now.program.nets }
     requires none { results.old.items ≡ [] }
     ensures { OnOk result ((b : Table ℕ) → FitsTable run.entry.layout.now run.entry.rows.now b
         → results.new.items ≡ rows_at run.entry.outs.now b (length run.entry.rows.now)) }

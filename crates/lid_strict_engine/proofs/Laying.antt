@@ -1,5 +1,5 @@
 -- Steps stay what they are when reads and rows are appended, and one more step shows its cover.
-use Rattle.std.proofs.Common.{◌≡◌, ℕ, ◌+◌, ◌-◌, ◌<◌, ◌≤◌, List, [], ◌∷◌, ◌++◌, length, map, take, drop, refl, sym, ◌∙◌, ap, subst, arith, append-nil}
+use Rattle.std.proofs.Common.{◌≡◌, ℕ, ◌+◌, ◌-◌, ◌<◌, ◌≤◌, List, [], ◌∷◌, ◌++◌, length, map, take, drop, refl, sym, ◌∙◌, ap, subst, arith}
 use Rattle.std.specs.List.{AllByRecursion}
 use Rattle.std.proofs.lemmas.List.{take-append-le, drop-append-le, length-drop, length-append, map-append, take_all}
 use Rattle.lid_base.proofs.Lists.{all_append, all_push}
@@ -9,9 +9,8 @@ use Rattle.lid_cover.specs.Cover.{IsCover}
 use Rattle.lid_design.specs.declared.FlatCover.{FlatCover}
 use Rattle.lid_strict_engine.specs.declared.program.Span.{Span}
 use Rattle.lid_strict_engine.specs.declared.program.ProgramStep.{ProgramStep}
-use Rattle.lid_strict_engine.specs.declared.program.Program.{Program}
 use Rattle.lid_strict_engine.specs.Truth.{IsTruthTable}
-use Rattle.lid_strict_engine.specs.Programs.{span_items, IsSpan, cover_with, step_cover, shown_step, program_covers, IsStep, IsProgram}
+use Rattle.lid_strict_engine.specs.Programs.{span_items, IsSpan, cover_with, step_cover, shown_step, IsStep}
 
 abbrev cell : List ℕ → ℕ → Cover → FlatCover
 cell ins out cover = record { ins = ins; out = out; cover = cover }
@@ -39,43 +38,37 @@ part_more xs more part there = within_more xs more part.start (part.end - part.s
 is_part_more : {A : Type 0} (xs more : List A) (part : Span) → IsSpan xs part → IsSpan (xs ++ more) part
 is_part_more xs more part there = let long = length-append xs more in let a = there.1 in (there.0, omega arith)
 
-module _ (nets spare : ℕ) (reads more : List ℕ) (cubes rows : List Cube) where
-  step_more : (step : ProgramStep) → IsStep nets spare reads cubes step → shown_step (reads ++ more) (cubes ++ rows) step ≡ shown_step reads cubes step
+module _ (nets : ℕ) (reads more : List ℕ) (cubes rows : List Cube) where
+  step_more : (step : ProgramStep) → IsStep nets reads cubes step → shown_step (reads ++ more) (cubes ++ rows) step ≡ shown_step reads cubes step
   step_more step is =
-      let a = is.read in
-      let one : take step.width (drop step.first (reads ++ more)) ≡ take step.width (drop step.first reads) = within_more reads more step.first step.width (omega arith) in
+      let one : take step.width (drop step.first (reads ++ more)) ≡ take step.width (drop step.first reads) = within_more reads more step.first step.width is.read in
       let two : span_items (cubes ++ rows) step.cubes ≡ span_items cubes step.cubes = part_more cubes rows step.cubes is.rows in
       ap (λ (ins : List ℕ). cell ins step.out (step_cover (cubes ++ rows) step)) one
       ∙ ap (λ (cs : List Cube). cell (take step.width (drop step.first reads)) step.out (cover_with step.width step.on cs)) two
 
-  pub all_shown_more : (steps : List ProgramStep) → AllByRecursion (IsStep nets spare reads cubes) steps → map (shown_step (reads ++ more) (cubes ++ rows)) steps ≡ map (shown_step reads cubes) steps
+  all_shown_more : (steps : List ProgramStep) → AllByRecursion (IsStep nets reads cubes) steps → map (shown_step (reads ++ more) (cubes ++ rows)) steps ≡ map (shown_step reads cubes) steps
   all_shown_more [] all = refl
   all_shown_more (step ∷ steps) all =
       let head = step_more step all.0 in
       let tail = all_shown_more steps all.1 in
       cc
 
-  module _ (left : ℕ) (room : left ≤ spare + length more) where
-    is_step_more : (step : ProgramStep) → IsStep nets spare reads cubes step → IsStep nets left (reads ++ more) (cubes ++ rows) step
-    is_step_more step is = record {
-      read = (let long = length-append reads more in let a = is.read in omega arith);
-      rows = is_part_more cubes rows step.cubes is.rows;
-      out = is.out;
-      cover = subst (λ (cs : List Cube). IsCover (cover_with step.width step.on cs)) (sym (part_more cubes rows step.cubes is.rows)) is.cover;
-      table = λ few. subst (λ (cs : List Cube). IsTruthTable step.table (cover_with step.width step.on cs)) (sym (part_more cubes rows step.cubes is.rows)) (is.table few);
-    }
+  is_step_more : (step : ProgramStep) → IsStep nets reads cubes step → IsStep nets (reads ++ more) (cubes ++ rows) step
+  is_step_more step is = record {
+    read = (let long = length-append reads more in let a = is.read in omega arith);
+    rows = is_part_more cubes rows step.cubes is.rows;
+    out = is.out;
+    cover = subst (λ (cs : List Cube). IsCover (cover_with step.width step.on cs)) (sym (part_more cubes rows step.cubes is.rows)) is.cover;
+    table = λ few. subst (λ (cs : List Cube). IsTruthTable step.table (cover_with step.width step.on cs)) (sym (part_more cubes rows step.cubes is.rows)) (is.table few);
+  }
 
-    pub all_steps_more : (steps : List ProgramStep) → AllByRecursion (IsStep nets spare reads cubes) steps → AllByRecursion (IsStep nets left (reads ++ more) (cubes ++ rows)) steps
-    all_steps_more [] all = tt
-    all_steps_more (step ∷ steps) all = (is_step_more step all.0, all_steps_more steps all.1)
-
-all_one_more : (n : ℕ) (xs : List ℕ) → AllByRecursion (λ k. k < n) xs → AllByRecursion (λ k. k < n + 1) xs
-all_one_more n [] all = tt
-all_one_more n (x ∷ xs) all = ((let h : x < n = all.0 in omega arith), all_one_more n xs all.1)
+  all_steps_more : (steps : List ProgramStep) → AllByRecursion (IsStep nets reads cubes) steps → AllByRecursion (IsStep nets (reads ++ more) (cubes ++ rows)) steps
+  all_steps_more [] all = tt
+  all_steps_more (step ∷ steps) all = (is_step_more step all.0, all_steps_more steps all.1)
 
 -- one more step
 module _ (nets : ℕ) (steps : List ProgramStep) (reads more reads' : List ℕ) (cubes cubes' : List Cube) (cover : Cover) (out table first : ℕ) (part : Span)
-    (all : AllByRecursion (IsStep nets 0 reads cubes) steps)
+    (all : AllByRecursion (IsStep nets reads cubes) steps)
     (extended : reads' ≡ reads ++ more) (extended' : cubes' ≡ cubes ++ cover.cubes)
     (place : first ≡ length reads) (place' : part.start ≡ length cubes) (end' : part.end ≡ length cubes')
     (rules : IsCover cover) (wide : cover.inputs ≡ length more) (within : out < nets) (is : cover.inputs ≤ 6 → IsTruthTable table cover) where
@@ -95,7 +88,7 @@ module _ (nets : ℕ) (steps : List ProgramStep) (reads more reads' : List ℕ) 
       ap (λ (ins : List ℕ). cell ins out (step_cover (cubes ++ cover.cubes) new_step)) (appended reads more first cover.inputs place wide)
       ∙ ap (λ (c : Cover). cell more out c) own_cover
 
-  is_new : IsStep nets 0 (reads ++ more) (cubes ++ cover.cubes) new_step
+  is_new : IsStep nets (reads ++ more) (cubes ++ cover.cubes) new_step
   is_new = record {
     read = (let long = length-append reads more in omega arith);
     rows = (let long = length-append cubes cover.cubes in let same = ap length extended' in (omega arith, omega arith));
@@ -109,36 +102,14 @@ module _ (nets : ℕ) (steps : List ProgramStep) (reads more reads' : List ℕ) 
       ap (λ (rs : List ℕ). map (shown_step rs cubes') (steps ++ new_step ∷ [])) extended
       ∙ ap (λ (cs : List Cube). map (shown_step (reads ++ more) cs) (steps ++ new_step ∷ [])) extended'
       ∙ map-append (shown_step (reads ++ more) (cubes ++ cover.cubes)) steps (new_step ∷ [])
-      ∙ ap (λ (cs : List FlatCover). cs ++ shown_step (reads ++ more) (cubes ++ cover.cubes) new_step ∷ []) (all_shown_more nets 0 reads more cubes cover.cubes steps all)
+      ∙ ap (λ (cs : List FlatCover). cs ++ shown_step (reads ++ more) (cubes ++ cover.cubes) new_step ∷ []) (all_shown_more nets reads more cubes cover.cubes steps all)
       ∙ ap (λ (c : FlatCover). map (shown_step reads cubes) steps ++ c ∷ []) shown_new
 
-  pub pushed_steps : AllByRecursion (IsStep nets 0 reads' cubes') (steps ++ new_step ∷ [])
+  pub pushed_steps : AllByRecursion (IsStep nets reads' cubes') (steps ++ new_step ∷ [])
   pushed_steps =
-      subst (λ (rs : List ℕ). AllByRecursion (IsStep nets 0 rs cubes') (steps ++ new_step ∷ [])) (sym extended)
-      (subst (λ (cs : List Cube). AllByRecursion (IsStep nets 0 (reads ++ more) cs) (steps ++ new_step ∷ [])) (sym extended')
-      (all_push (IsStep nets 0 (reads ++ more) (cubes ++ cover.cubes)) steps new_step (all_steps_more nets 0 reads more cubes cover.cubes 0 (omega arith) steps all) is_new))
+      subst (λ (rs : List ℕ). AllByRecursion (IsStep nets rs cubes') (steps ++ new_step ∷ [])) (sym extended)
+      (subst (λ (cs : List Cube). AllByRecursion (IsStep nets (reads ++ more) cs) (steps ++ new_step ∷ [])) (sym extended')
+      (all_push (IsStep nets (reads ++ more) (cubes ++ cover.cubes)) steps new_step (all_steps_more nets reads more cubes cover.cubes steps all) is_new))
 
-pub pushed_reads : (nets : ℕ) (reads more reads' : List ℕ) → reads' ≡ reads ++ more → AllByRecursion (λ k. k < nets + 1) reads → AllByRecursion (λ k. k < nets) more → AllByRecursion (λ k. k < nets + 1) reads'
-pushed_reads nets reads more reads' extended all below =
-    subst (AllByRecursion (λ (k : ℕ). k < nets + 1)) (sym extended) (all_append (λ (k : ℕ). k < nets + 1) reads more all (all_one_more nets more below))
-
--- six reads more
-pub finished_shown : (p : Program) (reads' : List ℕ) → IsProgram 0 p → reads' ≡ p.reads.items ++ 0 ∷ 0 ∷ 0 ∷ 0 ∷ 0 ∷ 0 ∷ [] → map (shown_step reads' p.cubes.items) p.steps.items ≡ program_covers p
-unfolding program_covers
-finished_shown p reads' laid extended =
-    let pad : List ℕ = 0 ∷ 0 ∷ 0 ∷ 0 ∷ 0 ∷ 0 ∷ [] in
-    ap (λ (rs : List ℕ). map (shown_step rs p.cubes.items) p.steps.items) extended
-    ∙ ap (λ (cs : List Cube). map (shown_step (p.reads.items ++ pad) cs) p.steps.items) (sym (append-nil p.cubes.items))
-    ∙ all_shown_more p.nets 0 p.reads.items pad p.cubes.items [] p.steps.items laid.steps
-
-pub finished_steps : (p : Program) (reads' : List ℕ) → IsProgram 0 p → reads' ≡ p.reads.items ++ 0 ∷ 0 ∷ 0 ∷ 0 ∷ 0 ∷ 0 ∷ [] → AllByRecursion (IsStep p.nets 6 reads' p.cubes.items) p.steps.items
-finished_steps p reads' laid extended =
-    let pad : List ℕ = 0 ∷ 0 ∷ 0 ∷ 0 ∷ 0 ∷ 0 ∷ [] in
-    subst (λ (rs : List ℕ). AllByRecursion (IsStep p.nets 6 rs p.cubes.items) p.steps.items) (sym extended)
-    (subst (λ (cs : List Cube). AllByRecursion (IsStep p.nets 6 (p.reads.items ++ pad) cs) p.steps.items) (append-nil p.cubes.items)
-    (all_steps_more p.nets 0 p.reads.items pad p.cubes.items [] 6 (omega arith) p.steps.items laid.steps))
-
-pub finished_reads : (p : Program) (reads' : List ℕ) → IsProgram 0 p → reads' ≡ p.reads.items ++ 0 ∷ 0 ∷ 0 ∷ 0 ∷ 0 ∷ 0 ∷ [] → AllByRecursion (λ k. k < p.nets + 1) reads'
-finished_reads p reads' laid extended =
-    let some : 0 < p.nets + 1 = omega arith in
-    subst (AllByRecursion (λ (k : ℕ). k < p.nets + 1)) (sym extended) (all_append (λ (k : ℕ). k < p.nets + 1) p.reads.items (0 ∷ 0 ∷ 0 ∷ 0 ∷ 0 ∷ 0 ∷ []) laid.reads (some, (some, (some, (some, (some, (some, tt)))))))
+pub pushed_reads : (nets : ℕ) (reads more reads' : List ℕ) → reads' ≡ reads ++ more → AllByRecursion (λ k. k < nets) reads → AllByRecursion (λ k. k < nets) more → AllByRecursion (λ k. k < nets) reads'
+pushed_reads nets reads more reads' extended all below = subst (AllByRecursion (λ (k : ℕ). k < nets)) (sym extended) (all_append (λ (k : ℕ). k < nets) reads more all below)

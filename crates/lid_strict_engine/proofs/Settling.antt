@@ -1,7 +1,7 @@
 -- Bits that are right at some nets stay so, and one more net gets a right bit.
-use Rattle.std.proofs.Common.{◌≡◌, ◌≢◌, ◌⊎◌, ℕ, zero, suc, ◌+◌, ◌-◌, ◌<◌, ◌≤◌, eqb, Bool, true, false, List, [], ◌∷◌, ◌++◌, length, map, take, drop, set, get_or, Some, None, slice_get, inl, inr, refl, sym, ◌∙◌, ap, subst, arith}
+use Rattle.std.proofs.Common.{◌≡◌, ◌≢◌, ◌⊎◌, ℕ, zero, suc, ◌+◌, ◌<◌, eqb, Bool, true, false, List, [], ◌∷◌, ◌++◌, length, map, take, set, get_or, Some, None, slice_get, inl, inr, refl, sym, ◌∙◌, ap, subst, arith}
 use Rattle.std.specs.List.{AllByRecursion}
-use Rattle.std.proofs.lemmas.List.{take_more, take-map, length-map, length-take, length-drop, get_or-set_same, get_or-set_other}
+use Rattle.std.proofs.lemmas.List.{take_more, get_or-set_same, get_or-set_other}
 use Rattle.std.proofs.lemmas.Bool.Decides.{eqb_tells}
 use Rattle.std.proofs.lemmas.Option.{slice_get_within, get_or_from_slice_get}
 use Rattle.lid_base.specs.Lists.{Among}
@@ -112,27 +112,6 @@ taken_next nets bits into i k here room so_far =
     map_push : (nets : List ℕ) → map (bit_at bits) (nets ++ k ∷ []) ≡ map (bit_at bits) nets ++ bit_at bits k ∷ []
     map_push [] = refl
     map_push (n ∷ nets) = ap (λ (bs : List Bool). bit_at bits n ∷ bs) (map_push nets)
-
--- the first of six bits
-pub first_of_six : (reads : List ℕ) (bits : List Bool) (first width : ℕ) → width ≤ 6 → take width (map (bit_at bits) (take (first + 6 - first) (drop first reads))) ≡ map (bit_at bits) (take width (drop first reads))
-first_of_six reads bits first width few =
-    let six : first + 6 - first ≡ 6 = omega arith in
-    ap (λ (n : ℕ). take width (map (bit_at bits) (take n (drop first reads)))) six
-    ∙ take-map (bit_at bits) width (take 6 (drop first reads))
-    ∙ ap (map (bit_at bits)) (take_take width 6 (drop first reads) few)
-  where
-    take_take : (m n : ℕ) (xs : List ℕ) → m ≤ n → take m (take n xs) ≡ take m xs
-    take_take zero n xs h = refl
-    take_take (suc m) zero xs h = absurd (omega arith)
-    take_take (suc m) (suc n) [] h = refl
-    take_take (suc m) (suc n) (x ∷ xs) h = ap (λ (ys : List ℕ). x ∷ ys) (take_take m n xs (omega arith))
-
-pub six_long : (reads : List ℕ) (bits : List Bool) (first width : ℕ) → (first + width) + 6 ≤ length reads → length (map (bit_at bits) (take (first + 6 - first) (drop first reads))) ≡ 6
-six_long reads bits first width room =
-    let long = length-map (take (first + 6 - first) (drop first reads)) (bit_at bits) in
-    let taken = length-take (first + 6 - first) (drop first reads) in
-    let dropped = length-drop first reads in
-    omega arith
 
 -- latches by their places
 abbrev pub no_latch : FlatLatch

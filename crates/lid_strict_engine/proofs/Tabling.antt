@@ -64,9 +64,6 @@ later_below bits nets left n few some =
     let long = length-map (drop left nets) (bit_at bits) ∙ length-drop left nets in
     packed_below (map (bit_at bits) (drop left nets)) n (omega arith)
 
-pub packed_of_six : (bits : List Bool) → length bits ≡ 6 → packed bits < 64
-packed_of_six bits long = subst (λ (n : ℕ). packed bits < 2 ^ n) long (packed_bound bits)
-
 -- each bit of packed bits
 none_set : (i : ℕ) → is_set 0 i ≡ false
 none_set i = ap lowest_bit (zero-div (2 ^ i))
@@ -156,8 +153,3 @@ size_is (suc (suc (suc (suc zero)))) h = refl
 size_is (suc (suc (suc (suc (suc zero))))) h = refl
 size_is (suc (suc (suc (suc (suc (suc zero)))))) h = refl
 size_is (suc (suc (suc (suc (suc (suc (suc n))))))) h = absurd (omega arith)
-
--- what a table says of packed bits, of which there are at least as many as inputs
-pub table_says : (table : ℕ) (cover : Cover) → IsTruthTable table cover → (bits : List Bool) → length bits ≡ 6 → cover.inputs ≤ 6 → is_set table (packed bits) ≡ cover_value cover (take cover.inputs bits)
-table_says table cover is bits long few =
-    is (packed bits) (packed_of_six bits long) ∙ ap (cover_value cover) (unpacked_packed cover.inputs bits (omega arith))

@@ -29,25 +29,20 @@ step_cover cubes step = cover_with step.width step.on (span_items cubes step.cub
 abbrev pub shown_step : List ℕ → List Cube → ProgramStep → FlatCover
 shown_step reads cubes step = record { ins = take step.width (drop step.first reads); out = step.out; cover = step_cover cubes step }
 
--- the covers of a program, in the order in which they are run
+-- the covers of a program, as they stand
 unfoldable pub program_covers : Program → List FlatCover
 program_covers p = map (shown_step p.reads.items p.cubes.items) p.steps.items
 
--- a step has its parts, and so many reads after its own; it writes a net; its cover meets the rules of
--- covers, and its table is that of the cover
-pub record IsStep (nets spare : ℕ) (reads : List ℕ) (cubes : List Cube) (step : ProgramStep) : Type 0 where
-  pub read : (step.first + step.width) + spare ≤ length reads
+-- a step has its reads and its rows; it writes a net; its cover meets the rules of covers, and its table
+-- is that of the cover
+pub record IsStep (nets : ℕ) (reads : List ℕ) (cubes : List Cube) (step : ProgramStep) : Type 0 where
+  pub read : step.first + step.width ≤ length reads
   pub rows : IsSpan cubes step.cubes
   pub out : step.out < nets
   pub cover : IsCover (step_cover cubes step)
   pub table : step.width ≤ 6 → IsTruthTable step.table (step_cover cubes step)
 
--- the steps of a program stand, with so many reads after those of each. A read may be the number of
--- the nets, which is no net, but has a bit
-pub record IsProgram (spare : ℕ) (p : Program) : Type 0 where
-  pub reads : AllByRecursion (λ k. k < p.nets + 1) p.reads.items
-  pub steps : AllByRecursion (IsStep p.nets spare p.reads.items p.cubes.items) p.steps.items
-
--- six bits can be read from the first read of each step on
-abbrev pub IsReadyProgram : Program → Type 0
-IsReadyProgram p = IsProgram 6 p
+-- reads are nets, and the steps stand
+pub record IsProgram (p : Program) : Type 0 where
+  pub reads : AllByRecursion (λ k. k < p.nets) p.reads.items
+  pub steps : AllByRecursion (IsStep p.nets p.reads.items p.cubes.items) p.steps.items

@@ -1,5 +1,5 @@
-//! The engine of strict runs: covers laid out in flat arrays, in the order in which they are run, and the bits of one row
-//! that they settle. A cover of at most six inputs is run by its truth table.
+//! Programs: covers laid out in flat arrays, one after the other, each of at most six inputs with its truth table; and the
+//! bits of one row, which are put in and taken.
 #![tactic(auto)]
 
 mod program;
@@ -7,4 +7,4 @@ mod row;
 mod truth;
 
 pub use program::{Program, ProgramStep, Span, copy_of};
-pub use row::{first_state, put_bits, put_state, settle, take_bits, take_state};
+pub use row::{first_state, put_bits, put_state, take_bits, take_state};

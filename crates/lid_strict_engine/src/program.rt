@@ -1,10 +1,10 @@
-//! Programs: covers in flat arrays, in the order in which they are run.
+//! Programs: covers in flat arrays, one after the other.
 
 ghost use Rattle.std.specs.Prelude.{◌≡◌, ◌≤◌, ◌<◌, ◌+◌, ◌++◌, ◌∷◌, [], length, IfOk, OnOk};
 ghost use Rattle.std.specs.List.{AllByRecursion};
 ghost use Rattle.lid_cover.specs.Cover.{IsCover};
 ghost use Rattle.lid_strict_engine.specs.Truth.{IsTruthTable};
-ghost use Rattle.lid_strict_engine.specs.Programs.{program_covers, IsProgram, IsReadyProgram};
+ghost use Rattle.lid_strict_engine.specs.Programs.{program_covers, IsProgram};
 
 use crate::truth::{TABLE_INPUTS, table_of};
 use lid_cover::{Cover, Cube};
@@ -35,7 +35,7 @@ pub struct ProgramStep {
     pub on: bool,
 }
 
-/// Covers between nets, which are the numbers below `nets`, in the order in which they are run.
+/// Covers between nets, which are the numbers below `nets`, one after the other.
 #[derive(Drop)]
 pub struct Program {
     pub nets: u32,
@@ -50,7 +50,7 @@ impl Program {
     /// No covers. It takes no memory.
     #[tactic(auto, unfolding(crate::specs::Programs::program_covers))]
     pub fn new(alloc: Global, nets: u32) -> Program
-        ensures laid { IsProgram 0 result }
+        ensures laid { IsProgram result }
         ensures nets { result.nets ≡ nets }
         ensures none { program_covers result ≡ [] }
     {
@@ -64,12 +64,12 @@ impl Program {
 
     /// Adds a cover that reads some nets and writes one.
     pub fn push(&mut self, ins: &[u32], out: u32, cover: &Cover) -> Result<(), AllocError>
-        requires laid { IsProgram 0 self.old }
+        requires laid { IsProgram self.old }
         requires rules { IsCover cover.now }
         requires width { cover.now.inputs ≡ length ins.now }
         requires ins { AllByRecursion (λ k. k < self.old.nets) ins.now }
         requires out { out < self.old.nets }
-        ensures laid { OnOk result (IsProgram 0 self.new) }
+        ensures laid { OnOk result (IsProgram self.new) }
         ensures nets { self.new.nets ≡ self.old.nets }
         ensures shown { OnOk result (program_covers self.new ≡ program_covers self.old ++ record { ins = ins.now; out = out; cover = cover.now } ∷ []) }
     {
@@ -89,7 +89,7 @@ impl Program {
     /// An equal program.
     #[tactic(auto, unfolding(crate::specs::Programs::program_covers))]
     pub fn copy(&self) -> Result<Program, AllocError>
-        ensures ready { IsReadyProgram self.now → IfOk result IsReadyProgram }
+        ensures ready { IsProgram self.now → IfOk result IsProgram }
         ensures nets { IfOk result (λ copy. copy.nets ≡ self.now.nets) }
         ensures shown { IfOk result (λ copy. program_covers copy ≡ program_covers self.now) }
     {
@@ -103,17 +103,6 @@ impl Program {
             reads,
             cubes,
         })
-    }
-
-    /// Adds six reads that belong to no cover, so that six can be read from the first of each on.
-    pub fn finish(&mut self) -> Result<(), AllocError>
-        requires { IsProgram 0 self.old }
-        ensures ready { OnOk result (IsReadyProgram self.new) }
-        ensures nets { self.new.nets ≡ self.old.nets }
-        ensures shown { OnOk result (program_covers self.new ≡ program_covers self.old) }
-    {
-        self.reads.extend_from_slice(&[0, 0, 0, 0, 0, 0])?;
-        Ok(())
     }
 }
 

@@ -6,20 +6,24 @@ use Rattle.std.proofs.lemmas.List.{take_all, length-map, length-take, length-dro
 use Rattle.std.proofs.lemmas.Option.{slice_get_cases, get_or_from_slice_get, slice_get-map}
 use Rattle.lid_base.proofs.Alls.{all_take, all_drop}
 use Rattle.lid_base.proofs.Lists.{all_at}
+use Rattle.lid_base.proofs.Places.{item_read, get_map}
 use Rattle.lid_cover.specs.declared.Cover.{Cover}
+use Rattle.lid_cover.specs.declared.Cube.{Cube}
 use Rattle.lid_cover.specs.Cover.{cover_value}
 use Rattle.lid_cover.specs.Masks.{packed}
 use Rattle.lid_design.specs.declared.FlatCover.{FlatCover}
 use Rattle.lid_strict_engine.specs.declared.program.Program.{Program}
 use Rattle.lid_strict_engine.specs.declared.program.ProgramStep.{ProgramStep}
 use Rattle.lid_strict_engine.specs.Truth.{is_set, IsTruthTable}
-use Rattle.lid_strict_engine.specs.Programs.{shown_step, step_cover, program_covers, IsStep, IsReadyProgram}
+use Rattle.lid_strict_engine.specs.Programs.{shown_step, step_cover, IsStep}
 use Rattle.lid_strict_engine.specs.Rows.{bit_at, AreRightAt, known_after}
 use Rattle.lid_strict_engine.proofs.Settling.{settled_next}
 use Rattle.lid_strict_engine.proofs.Tabling.{packed_below, unpacked_packed}
 use Rattle.lid_strict_widths.specs.declared.group.Group.{Group}
 use Rattle.lid_strict_widths.specs.declared.group.ByWidth.{ByWidth}
-use Rattle.lid_strict_widths.specs.Groups.{IsGroup, Tile, step_out, step_table, own_reads, reads_before, IsByWidth, RightUpTo}
+use Rattle.lid_strict_widths.specs.Steps.{no_step, step_out, step_table, own_reads, reads_before}
+use Rattle.lid_strict_widths.specs.Groups.{IsGroup, Tile, run_steps, IsByWidth, RightUpTo}
+use Rattle.lid_strict_widths.proofs.Standing.{picked_all, steps_among, order_within}
 
 pub from_bool_le : (b : Bool) → from_bool b ≤ 1
 from_bool_le true = omega arith
@@ -51,7 +55,7 @@ drop_past (x ∷ xs) ys (suc n) k long =
 abbrev IsWhole : List ℕ → ProgramStep → Type 0
 IsWhole reads s = length (own_reads reads s) ≡ s.width
 
-all_whole : (nets : ℕ) (reads : List ℕ) (p : Program) (steps : List ProgramStep) → AllByRecursion (IsStep nets 6 reads p.cubes.items) steps → AllByRecursion (IsWhole reads) steps
+all_whole : (nets : ℕ) (reads : List ℕ) (p : Program) (steps : List ProgramStep) → AllByRecursion (IsStep nets reads p.cubes.items) steps → AllByRecursion (IsWhole reads) steps
 all_whole nets reads p [] all = tt
 all_whole nets reads p (s ∷ steps) all =
     let taken = length-take s.width (drop s.first reads) in
@@ -93,49 +97,70 @@ reads_next (t ∷ steps) (suc i) s here =
     let e : suc i + 1 ≡ suc (i + 1) = omega arith in
     ap (reads_before (t ∷ steps)) e ∙ (let n = next in omega arith)
 
--- the step at a place, and what the loop has at hand of it
+-- the steps as they are run stand, as those of the program do
+pub run_all : (x : ByWidth) → IsByWidth x → AllByRecursion (IsStep x.program.nets x.program.reads.items x.program.cubes.items) (run_steps x)
+run_all x is =
+    let within = order_within x.program x.order.items is.order in
+    picked_all (IsStep x.program.nets x.program.reads.items x.program.cubes.items) x.program.steps.items (run_steps x) is.ready.steps (steps_among x.program.steps.items x.order.items within)
+
+-- the step at a place as they are run, and what the loop has at hand of it
 pub record Hand (x : ByWidth) (i : ℕ) : Type 0 where
   pub s : ProgramStep
-  pub here : slice_get x.program.steps.items i ≡ Some s
+  pub here : slice_get (run_steps x) i ≡ Some s
   pub is_out : slice_get x.outs.items i ≡ Some s.out
   pub is_table : slice_get x.tables.items i ≡ Some s.table
-  pub step : IsStep x.program.nets 6 x.program.reads.items x.program.cubes.items s
-  pub room : reads_before x.program.steps.items i + s.width ≤ length x.reads.items
-  pub reads : take s.width (drop (reads_before x.program.steps.items i) x.reads.items) ≡ own_reads x.program.reads.items s
-  pub next : reads_before x.program.steps.items (i + 1) ≡ reads_before x.program.steps.items i + s.width
+  pub step : IsStep x.program.nets x.program.reads.items x.program.cubes.items s
+  pub room : reads_before (run_steps x) i + s.width ≤ length x.reads.items
+  pub reads : take s.width (drop (reads_before (run_steps x) i) x.reads.items) ≡ own_reads x.program.reads.items s
+  pub next : reads_before (run_steps x) (i + 1) ≡ reads_before (run_steps x) i + s.width
   pub whole : length (own_reads x.program.reads.items s) ≡ s.width
-  pub below : AllByRecursion (λ k. k < x.program.nets + 1) (own_reads x.program.reads.items s)
+  pub below : AllByRecursion (λ k. k < x.program.nets) (own_reads x.program.reads.items s)
 
-pub hand_at : (x : ByWidth) (i : ℕ) → IsByWidth x → i < length x.program.steps.items → Hand x i
-hand_at x i is inside = by (slice_get_cases x.program.steps.items i).1
+pub hand_at : (x : ByWidth) (i : ℕ) → IsByWidth x → i < length (run_steps x) → Hand x i
+hand_at x i is inside = by (slice_get_cases (run_steps x) i).1
   where
-    by : ((s : ProgramStep) × (i < length x.program.steps.items) × (slice_get x.program.steps.items i ≡ Some s) × (get_or x.program.steps.items i s ≡ s)) ⊎ ((length x.program.steps.items ≤ i) × (slice_get x.program.steps.items i ≡ None)) → Hand x i
+    by : ((s : ProgramStep) × (i < length (run_steps x)) × (slice_get (run_steps x) i ≡ Some s) × (get_or (run_steps x) i s ≡ s)) ⊎ ((length (run_steps x) ≤ i) × (slice_get (run_steps x) i ≡ None)) → Hand x i
     by (inl found) =
-        let here : slice_get x.program.steps.items i ≡ Some found.0 = found.2 in
-        let whole = all_whole x.program.nets x.program.reads.items x.program x.program.steps.items is.ready.steps in
-        let at = reads_at x.program.reads.items x.program.steps.items i found.0 whole here in
+        let here : slice_get (run_steps x) i ≡ Some found.0 = found.2 in
+        let all = run_all x is in
+        let whole = all_whole x.program.nets x.program.reads.items x.program (run_steps x) all in
+        let at = reads_at x.program.reads.items (run_steps x) i found.0 whole here in
         record {
           s = found.0;
           here = here;
-          is_out = ap (λ (xs : List ℕ). slice_get xs i) is.outs ∙ (slice_get-map step_out x.program.steps.items i ∙ ap (option_map step_out) here);
-          is_table = ap (λ (xs : List ℕ). slice_get xs i) is.tables ∙ (slice_get-map step_table x.program.steps.items i ∙ ap (option_map step_table) here);
-          step = all_at (IsStep x.program.nets 6 x.program.reads.items x.program.cubes.items) x.program.steps.items i found.0 is.ready.steps here;
-          room = subst (λ (xs : List ℕ). reads_before x.program.steps.items i + found.0.width ≤ length xs) (sym is.reads) at.0;
-          reads = ap (λ (xs : List ℕ). take found.0.width (drop (reads_before x.program.steps.items i) xs)) is.reads ∙ at.1;
-          whole = all_at (IsWhole x.program.reads.items) x.program.steps.items i found.0 whole here;
-          next = reads_next x.program.steps.items i found.0 here;
-          below = all_take (λ k. k < x.program.nets + 1) found.0.width (drop found.0.first x.program.reads.items) (all_drop (λ k. k < x.program.nets + 1) found.0.first x.program.reads.items is.ready.reads);
+          is_out = ap (λ (xs : List ℕ). slice_get xs i) is.outs ∙ (slice_get-map step_out (run_steps x) i ∙ ap (option_map step_out) here);
+          is_table = ap (λ (xs : List ℕ). slice_get xs i) is.tables ∙ (slice_get-map step_table (run_steps x) i ∙ ap (option_map step_table) here);
+          step = all_at (IsStep x.program.nets x.program.reads.items x.program.cubes.items) (run_steps x) i found.0 all here;
+          room = subst (λ (xs : List ℕ). reads_before (run_steps x) i + found.0.width ≤ length xs) (sym is.reads) at.0;
+          reads = ap (λ (xs : List ℕ). take found.0.width (drop (reads_before (run_steps x) i) xs)) is.reads ∙ at.1;
+          whole = all_at (IsWhole x.program.reads.items) (run_steps x) i found.0 whole here;
+          next = reads_next (run_steps x) i found.0 here;
+          below = all_take (λ k. k < x.program.nets) found.0.width (drop found.0.first x.program.reads.items) (all_drop (λ k. k < x.program.nets) found.0.first x.program.reads.items is.ready.reads);
         }
     by (inr past) = absurd (omega (arith, past.0, inside))
 
+-- the step that a loop finds by its place
+pub place_within : (x : ByWidth) (i k : ℕ) → IsByWidth x → i < length (run_steps x) → k ≡ get_or x.order.items i k → k < length x.program.steps.items
+place_within x i k is inside same =
+    let long : length (run_steps x) ≡ length x.order.items = length-map x.order.items (λ k. get_or x.program.steps.items k no_step) in
+    let here : slice_get x.order.items i ≡ Some k = item_read x.order.items i k (omega arith) same in
+    all_at (λ k. k < length x.program.steps.items) x.order.items i k (order_within x.program x.order.items is.order) here
+
+pub step_there : (x : ByWidth) (i k : ℕ) (s : ProgramStep) → IsByWidth x → i < length (run_steps x) → k ≡ get_or x.order.items i k → s ≡ get_or x.program.steps.items k s → slice_get (run_steps x) i ≡ Some s
+step_there x i k s is inside same read =
+    let long : length (run_steps x) ≡ length x.order.items = length-map x.order.items (λ k. get_or x.program.steps.items k no_step) in
+    let here : slice_get x.order.items i ≡ Some k = item_read x.order.items i k (omega arith) same in
+    let there : slice_get x.program.steps.items k ≡ Some s = item_read x.program.steps.items k s (place_within x i k is inside same) read in
+    get_map (λ k. get_or x.program.steps.items k no_step) x.order.items i k here ∙ ap Some (get_or_from_slice_get x.program.steps.items k s no_step there)
+
 -- the nets that a loop reads for a step
-pub nets_at : (x : ByWidth) (i at width : ℕ) (seen : List ℕ) (h : Hand x i) → at ≡ reads_before x.program.steps.items i → width ≡ h.s.width → seen ≡ x.reads.items
+pub nets_at : (x : ByWidth) (i at width : ℕ) (seen : List ℕ) (h : Hand x i) → at ≡ reads_before (run_steps x) i → width ≡ h.s.width → seen ≡ x.reads.items
     → take (at + width - at) (drop at seen) ≡ own_reads x.program.reads.items h.s
 nets_at x i at width seen h place wide same =
     let exact : at + width - at ≡ h.s.width = omega arith in
     ap (λ (n : ℕ). take n (drop at seen)) exact
     ∙ ap (λ (n : ℕ). take h.s.width (drop n seen)) place
-    ∙ ap (λ (xs : List ℕ). take h.s.width (drop (reads_before x.program.steps.items i) xs)) same
+    ∙ ap (λ (xs : List ℕ). take h.s.width (drop (reads_before (run_steps x) i) xs)) same
     ∙ h.reads
 
 -- what a loop tells of a step by its table
@@ -153,14 +178,13 @@ pub told_of : (xs : List ℕ) (i x d : ℕ) → slice_get xs i ≡ Some x → d 
 told_of xs i x d here is = is ∙ get_or_from_slice_get xs i x d here
 
 -- one more cover is run
-pub right_next : (p : Program) (s : ProgramStep) (i from out : ℕ) (old bits : List Bool) (v : Bool) → slice_get p.steps.items i ≡ Some s → s.out < length bits → out ≡ s.out → v ≡ cover_value (step_cover p.cubes.items s) (map (bit_at bits) (own_reads p.reads.items s))
-    → RightUpTo (program_covers p) from old i bits → RightUpTo (program_covers p) from old (i + 1) (set bits out v)
-unfolding program_covers
-right_next p s i from out old bits v here room is value right f known row earlier before =
-    let show = shown_step p.reads.items p.cubes.items in
-    let at : slice_get (program_covers p) i ≡ Some (shown_step p.reads.items p.cubes.items s) = slice_get-map show p.steps.items i ∙ ap (option_map show) here in
-    subst (λ (n : ℕ). AreRightAt f (known_after known (take (i + 1) (program_covers p))) (set bits n v)) (sym is)
-    (settled_next (program_covers p) i (shown_step p.reads.items p.cubes.items s) bits v at room value f known row earlier (right f known row earlier before))
+pub right_next : (steps : List ProgramStep) (reads : List ℕ) (cubes : List Cube) (s : ProgramStep) (i from out : ℕ) (old bits : List Bool) (v : Bool)
+    → slice_get steps i ≡ Some s → s.out < length bits → out ≡ s.out → v ≡ cover_value (step_cover cubes s) (map (bit_at bits) (own_reads reads s))
+    → RightUpTo (map (shown_step reads cubes) steps) from old i bits → RightUpTo (map (shown_step reads cubes) steps) from old (i + 1) (set bits out v)
+right_next steps reads cubes s i from out old bits v here room is value right f known row earlier before =
+    let covers = map (shown_step reads cubes) steps in
+    subst (λ (n : ℕ). AreRightAt f (known_after known (take (i + 1) covers)) (set bits n v)) (sym is)
+    (settled_next covers i (shown_step reads cubes s) bits v (get_map (shown_step reads cubes) steps i s here) room value f known row earlier (right f known row earlier before))
 
 pub right_joined : (covers : List FlatCover) (from at to : ℕ) (old mid new : List Bool) → RightUpTo covers from old at mid → RightUpTo covers at mid to new → RightUpTo covers from old to new
 right_joined covers from at to old mid new one other f known row earlier before = other f known row earlier (one f known row earlier before)

@@ -1,14 +1,15 @@
--- Programs whose steps stand in groups of one width.
-use Rattle.std.specs.Prelude.{◌≡◌, ◌≤◌, ◌<◌, ◌+◌, ℕ, zero, suc, Bool, List, [], ◌∷◌, length, map, take, drop, Some, slice_get}
+-- Programs that are run in groups of steps of one width.
+use Rattle.std.specs.Prelude.{◌≡◌, ◌≤◌, ◌<◌, ℕ, Bool, List, [], ◌∷◌, length, map, take, Some, slice_get}
 use Rattle.std.specs.List.{flat_map}
 use Rattle.lid_design.specs.declared.FlatCover.{FlatCover}
 use Rattle.lid_design.specs.Flat.{IsRow, ReadEarlier}
 use Rattle.lid_strict_engine.specs.declared.program.ProgramStep.{ProgramStep}
-use Rattle.lid_strict_engine.specs.declared.program.Program.{Program}
-use Rattle.lid_strict_engine.specs.Programs.{IsReadyProgram}
+use Rattle.lid_strict_engine.specs.Programs.{shown_step, program_covers, IsProgram}
 use Rattle.lid_strict_engine.specs.Rows.{AreRightAt, known_after}
 use Rattle.lid_strict_widths.specs.declared.group.Group.{Group}
 use Rattle.lid_strict_widths.specs.declared.group.ByWidth.{ByWidth}
+use Rattle.lid_strict_widths.specs.Steps.{steps_at, step_out, step_table, own_reads}
+use Rattle.lid_strict_widths.specs.Orders.{IsRunOrder}
 
 -- steps that follow one another, each as wide
 pub record IsGroup (steps : List ProgramStep) (g : Group) : Type 0 where
@@ -21,29 +22,22 @@ abbrev pub Tile : List ProgramStep → ℕ → List Group → ℕ → Type 0
 Tile steps from [] to = from ≡ to
 Tile steps from (g ∷ groups) to = (g.start ≡ from) × IsGroup steps g × Tile steps g.end groups to
 
-abbrev pub step_out : ProgramStep → ℕ
-step_out s = s.out
+-- the steps as they are run, and their covers
+abbrev pub run_steps : ByWidth → List ProgramStep
+run_steps x = steps_at x.program.steps.items x.order.items
 
-abbrev pub step_table : ProgramStep → ℕ
-step_table s = s.table
+abbrev pub run_covers : ByWidth → List FlatCover
+run_covers x = map (shown_step x.program.reads.items x.program.cubes.items) (run_steps x)
 
--- the nets that a step reads
-abbrev pub own_reads : List ℕ → ProgramStep → List ℕ
-own_reads reads s = take s.width (drop s.first reads)
-
--- how many nets the steps before one read
-abbrev pub reads_before : List ProgramStep → ℕ → ℕ
-reads_before [] i = 0
-reads_before (s ∷ steps) zero = 0
-reads_before (s ∷ steps) (suc i) = s.width + reads_before steps i
-
--- the arrays are those of the steps, and the groups are all steps
+-- the program may be run in the order, the arrays are those of its steps as they are run, and the groups
+-- are all of these
 pub record IsByWidth (x : ByWidth) : Type 0 where
-  pub ready : IsReadyProgram x.program
-  pub outs : x.outs.items ≡ map step_out x.program.steps.items
-  pub tables : x.tables.items ≡ map step_table x.program.steps.items
-  pub reads : x.reads.items ≡ flat_map (own_reads x.program.reads.items) x.program.steps.items
-  pub groups : Tile x.program.steps.items 0 x.groups.items (length x.program.steps.items)
+  pub ready : IsProgram x.program
+  pub order : IsRunOrder (program_covers x.program) x.order.items
+  pub outs : x.outs.items ≡ map step_out (run_steps x)
+  pub tables : x.tables.items ≡ map step_table (run_steps x)
+  pub reads : x.reads.items ≡ flat_map (own_reads x.program.reads.items) (run_steps x)
+  pub groups : Tile (run_steps x) 0 x.groups.items (length (run_steps x))
 
 -- bits that are right once the covers before `from` are run, are then right once those before `to` are
 abbrev pub RightUpTo : List FlatCover → ℕ → List Bool → ℕ → List Bool → Type 0

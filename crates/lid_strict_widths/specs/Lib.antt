@@ -1,2 +1,3 @@
-pub mod Groups
+pub mod Steps
 pub mod Orders
+pub mod Groups

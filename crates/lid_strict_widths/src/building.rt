@@ -1,12 +1,15 @@
 //! A program gets its groups.
 
-ghost use Rattle.std.specs.Prelude.{◌≡◌, ◌<◌, length, map, IfOk};
-ghost use Rattle.std.specs.List.{flat_map};
-ghost use Rattle.lid_strict_engine.specs.Programs.{IsReadyProgram};
-ghost use Rattle.lid_strict_widths.specs.Groups.{IsGroup, Tile, step_out, step_table, own_reads, IsByWidth};
+ghost use Rattle.std.specs.Prelude.{◌≡◌, ◌≤◌, ◌<◌, ◌+◌, length, map, IfOk};
+ghost use Rattle.std.specs.List.{AllByRecursion, flat_map};
+ghost use Rattle.lid_strict_engine.specs.Programs.{program_covers, IsProgram};
+ghost use Rattle.lid_strict_widths.specs.Steps.{step_out, step_table, own_reads};
+ghost use Rattle.lid_strict_widths.specs.Orders.{IsRunOrder};
+ghost use Rattle.lid_strict_widths.specs.Groups.{IsGroup, Tile, IsByWidth};
 
 use crate::group::{ByWidth, Group};
-use lid_strict_engine::{Program, ProgramStep};
+use crate::ordering::collect_steps;
+use lid_strict_engine::{Program, ProgramStep, copy_of};
 use std::alloc::{AllocError, Global};
 
 /// The nets that steps write.
@@ -32,16 +35,16 @@ fn tables_of(alloc: Global, steps: &[ProgramStep]) -> Result<Vec<u64>, AllocErro
 }
 
 /// The nets that steps read, step after step.
-fn reads_of(alloc: Global, program: &Program) -> Result<Vec<u32>, AllocError>
-    requires { IsReadyProgram program.now }
-    ensures { IfOk result (λ reads. reads.items ≡ flat_map (own_reads program.now.reads.items) program.now.steps.items) }
+fn reads_of(alloc: Global, reads: &[u32], steps: &[ProgramStep]) -> Result<Vec<u32>, AllocError>
+    requires { AllByRecursion (λ s. s.first + s.width ≤ length reads.now) steps.now }
+    ensures { IfOk result (λ own. own.items ≡ flat_map (own_reads reads.now) steps.now) }
 {
-    let mut reads = Vec::with_capacity(alloc, program.reads.len())?;
-    for step in program.steps.as_slice() {
+    let mut own = Vec::with_capacity(alloc, reads.len())?;
+    for step in steps {
         let first = step.first as usize;
-        reads.extend_from_slice(&program.reads.as_slice()[first..first + step.width as usize])?;
+        own.extend_from_slice(&reads[first..first + step.width as usize])?;
     }
-    Ok(reads)
+    Ok(own)
 }
 
 /// The longest group from a step on.
@@ -73,25 +76,42 @@ fn groups_of(alloc: Global, steps: &[ProgramStep]) -> Result<Vec<Group>, AllocEr
     Ok(groups)
 }
 
-/// A program with its steps in the longest groups.
+/// A program that is run in an order, with its steps in the longest groups.
 ///
 /// # Errors
 /// Where there is no memory.
-pub fn by_width(program: Program) -> Result<ByWidth, AllocError>
-    requires { IsReadyProgram program }
+pub fn by_width(program: Program, order: Vec<u32>) -> Result<ByWidth, AllocError>
+    requires ready { IsProgram program }
+    requires order { IsRunOrder (program_covers program) order.items }
     ensures is { IfOk result IsByWidth }
     ensures program { IfOk result (λ x. x.program ≡ program) }
 {
     let alloc = *program.steps.allocator();
-    let outs = outs_of(alloc, program.steps.as_slice())?;
-    let tables = tables_of(alloc, program.steps.as_slice())?;
-    let reads = reads_of(alloc, &program)?;
-    let groups = groups_of(alloc, program.steps.as_slice())?;
+    let steps = collect_steps(alloc, program.steps.as_slice(), order.as_slice())?;
+    let outs = outs_of(alloc, steps.as_slice())?;
+    let tables = tables_of(alloc, steps.as_slice())?;
+    let reads = reads_of(alloc, program.reads.as_slice(), steps.as_slice())?;
+    let groups = groups_of(alloc, steps.as_slice())?;
     Ok(ByWidth {
         program,
+        order,
         outs,
         tables,
         reads,
         groups,
     })
+}
+
+impl ByWidth {
+    /// An equal program that is run in the same order.
+    pub fn copy(&self) -> Result<ByWidth, AllocError>
+        requires { IsByWidth self.now }
+        ensures is { IfOk result IsByWidth }
+        ensures nets { IfOk result (λ copy. copy.program.nets ≡ self.now.program.nets) }
+        ensures shown { IfOk result (λ copy. program_covers copy.program ≡ program_covers self.now.program) }
+    {
+        let program = self.program.copy()?;
+        let order = copy_of(*self.order.allocator(), self.order.as_slice())?;
+        by_width(program, order)
+    }
 }

@@ -2,27 +2,29 @@
 
 use lid_strict_engine::Program;
 
-/// Steps of a program that follow one another and read as many nets each.
+/// Steps that are run one after the other and read as many nets each.
 #[derive(Clone, Copy)]
 pub struct Group {
-    /// The place of the first step.
+    /// How many steps are run before the first.
     pub start: usize,
-    /// The place after the last step.
+    /// How many are run up to the last.
     pub end: usize,
     /// How many nets each step reads.
     pub width: u32,
 }
 
-/// A program, and beside it what a loop over steps of one width goes through.
+/// A program with an order in which it is run, and beside it what a loop over steps of one width goes through.
 #[derive(Drop)]
 pub struct ByWidth {
     pub program: Program,
-    /// The net that each step writes.
+    /// The places of the steps, as they are run.
+    pub order: Vec<u32>,
+    /// The net that each step writes, as they are run.
     pub outs: Vec<u32>,
-    /// The truth table of each step; that of a wide one says nothing.
+    /// The truth table of each step, as they are run; that of a wide one says nothing.
     pub tables: Vec<u64>,
-    /// The nets that steps read, step after step.
+    /// The nets that steps read, step after step, as they are run.
     pub reads: Vec<u32>,
-    /// All steps, in order.
+    /// All steps, as they are run.
     pub groups: Vec<Group>,
 }

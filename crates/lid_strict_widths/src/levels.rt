@@ -1,6 +1,6 @@
 //! An order of steps by level and width. Nothing is promised of it.
 
-ghost use Rattle.lid_strict_engine.specs.Programs.{IsReadyProgram};
+ghost use Rattle.lid_strict_engine.specs.Programs.{IsProgram};
 
 use lid_strict_engine::{Program, ProgramStep};
 use std::alloc::{AllocError, Global};
@@ -8,7 +8,7 @@ use std::alloc::{AllocError, Global};
 /// The greatest level that is told apart.
 const MOST_LEVEL: u64 = 33_554_431;
 
-/// One more than the greatest level of the nets that a step reads, at most the greatest that is told apart.
+/// One more than the greatest level of the nets that a step reads; it saturates.
 fn level_of(step: ProgramStep, reads: &[u32], levels: &[u32]) -> u32 {
     let mut most = 0;
     for place in 0..step.width as usize {
@@ -24,9 +24,9 @@ fn level_of(step: ProgramStep, reads: &[u32], levels: &[u32]) -> u32 {
     most.saturating_add(1)
 }
 
-/// A number for each step by which steps are ordered: its level, then its width, then its place.
+/// A number for each step by which steps are ordered: its level, as far as levels are told apart, then its width, then its place.
 fn keys_of(alloc: Global, program: &Program) -> Result<Vec<u64>, AllocError> {
-    let mut levels = Vec::from_elem(alloc, 0u32, program.nets as usize + 1)?;
+    let mut levels = Vec::from_elem(alloc, 0u32, program.nets as usize)?;
     let mut keys = Vec::with_capacity(alloc, program.steps.len())?;
     let mut place = 0u64;
     for step in program.steps.as_slice() {

@@ -1,4 +1,5 @@
-//! Programs by widths: steps of one width that follow one another are run by one loop, over arrays of one thing each.
+//! Programs by level and width: steps of one width that are run one after the other are run by one loop, over arrays of one
+//! thing each.
 #![tactic(auto)]
 
 mod building;
@@ -11,5 +12,5 @@ mod settling;
 
 pub use building::by_width;
 pub use group::{ByWidth, Group};
-pub use ordering::by_level;
+pub use ordering::{as_laid, by_level};
 pub use settling::settle_by_width;

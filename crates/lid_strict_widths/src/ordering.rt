@@ -1,33 +1,41 @@
-//! The steps of a program by level and width: such an order is proposed, and tested before it is taken.
+//! The order in which a program is run: that by level and width is proposed, and tested before it is taken.
 
-ghost use Rattle.std.specs.Prelude.{◌≡◌, ◌≤◌, ◌<◌, ◌+◌, ℕ, true, length, Some, slice_get, get_or, IfOk};
+ghost use Rattle.std.specs.Prelude.{◌≡◌, ◌≤◌, ◌<◌, ◌+◌, ◌↔◌, ℕ, true, IsTrue, length, Some, slice_get, get_or, IfOk};
 ghost use Rattle.std.specs.List.{AllByRecursion};
 ghost use Rattle.lid_base.specs.Lists.{Among};
+ghost use Rattle.lid_base.specs.Each.{from_each};
 ghost use Rattle.lid_strict_engine.specs.declared.program.ProgramStep.{ProgramStep};
-ghost use Rattle.lid_strict_engine.specs.Programs.{IsStep, IsReadyProgram};
-ghost use Rattle.lid_strict_widths.specs.Groups.{own_reads};
-ghost use Rattle.lid_strict_widths.specs.Orders.{ServesFor, AreLastWrites, ReadsPast, WritesAll};
+ghost use Rattle.lid_strict_engine.specs.Programs.{program_covers, IsStep, IsProgram};
+ghost use Rattle.lid_strict_widths.specs.Steps.{steps_at, own_reads};
+ghost use Rattle.lid_strict_widths.specs.Orders.{IsRunOrder, AreLastWrites, ReadsPast, WritesAll};
 
 use crate::levels::propose;
 use lid_strict_engine::{Program, ProgramStep};
 use std::alloc::{AllocError, Global};
 
-/// The steps at some places; a place that has none is skipped.
-fn steps_at(
+/// The steps at some places.
+pub(crate) fn collect_steps(
     alloc: Global,
     steps: &[ProgramStep],
     places: &[u32],
 ) -> Result<Vec<ProgramStep>, AllocError>
-    ensures { IfOk result (λ picked. AllByRecursion (λ s. Among s steps.now) picked.items) }
+    requires { AllByRecursion (λ k. k < length steps.now) places.now }
+    ensures { IfOk result (λ picked. picked.items ≡ steps_at steps.now places.now) }
 {
     let mut picked = Vec::with_capacity(alloc, places.len())?;
     for place in places {
-        let Some(step) = steps.get(*place as usize) else {
-            continue;
-        };
-        picked.push(*step)?;
+        picked.push(steps[*place as usize])?;
     }
     Ok(picked)
+}
+
+/// Whether some numbers are places of steps.
+fn are_places(numbers: &[u32], steps: &[ProgramStep]) -> bool
+    ensures { IsTrue result ↔ AllByRecursion (λ k. k < length steps.now) numbers.now }
+{
+    numbers
+        .iter()
+        .all(|number| (*number as usize) < steps.len())
 }
 
 /// For each net below a number the place after the last step that writes it, and 0 where none does.
@@ -87,45 +95,64 @@ fn writes_all(steps: &[ProgramStep], last: &[usize]) -> bool
 
 /// Whether some steps of a program may be run in place of all of it.
 fn may_stand_in(program: &Program, steps: &[ProgramStep], last: &[usize]) -> bool
-    requires ready { IsReadyProgram program.now }
+    requires ready { IsProgram program.now }
     requires steps { AllByRecursion (λ s. Among s program.now.steps.items) steps.now }
-    requires long { length last.now ≡ program.now.nets + 1 }
+    requires long { length last.now ≡ program.now.nets }
     ensures reads { result ≡ true → ReadsPast program.now.reads.items steps.now last.now }
     ensures writes { result ≡ true → WritesAll program.now.steps.items last.now }
 {
     writes_all(program.steps.as_slice(), last) && reads_past(program.reads.as_slice(), steps, last)
 }
 
-/// Has a program take some of its steps in place of all, where they may stand in for them.
-fn take_steps(program: &mut Program, steps: Vec<ProgramStep>, last: &[usize])
-    requires ready { IsReadyProgram program.old }
-    requires steps { AllByRecursion (λ s. Among s program.old.steps.items) steps.items }
-    requires long { length last.now ≡ program.old.nets + 1 }
-    requires last { AreLastWrites steps.items last.now }
-    ensures ready { IsReadyProgram program.new }
-    ensures nets { program.new.nets ≡ program.old.nets }
-    ensures serves { ServesFor program.old program.new }
+/// Whether a program may be run in an order.
+fn may_run_in(program: &Program, order: &[u32]) -> Result<bool, AllocError>
+    requires { IsProgram program.now }
+    ensures { IfOk result (λ may. may ≡ true → IsRunOrder (program_covers program.now) order.now) }
 {
-    if !may_stand_in(program, steps.as_slice(), last) {
-        return;
+    if !are_places(order, program.steps.as_slice()) {
+        return Ok(false);
     }
-    program.steps = steps;
+    let alloc = *program.steps.allocator();
+    let steps = collect_steps(alloc, program.steps.as_slice(), order)?;
+    let last = last_writes(alloc, program.nets as usize, steps.as_slice())?;
+    Ok(may_stand_in(program, steps.as_slice(), last.as_slice()))
 }
 
-/// A program that does what this one does, with its steps by level and width where that order passes its test.
+/// The numbers below one, in order.
+fn numbers_below(alloc: Global, count: u32) -> Result<Vec<u32>, AllocError>
+    ensures { IfOk result (λ numbers. numbers.items ≡ from_each (λ k. k) 0 count) }
+{
+    let mut numbers = Vec::with_capacity(alloc, count as usize)?;
+    for number in 0..count {
+        numbers.push(number)?;
+    }
+    Ok(numbers)
+}
+
+/// The order in which the steps of a program stand.
 ///
 /// # Errors
 /// Where there is no memory.
-pub fn by_level(mut program: Program) -> Result<Program, AllocError>
-    requires { IsReadyProgram program }
-    ensures ready { IfOk result IsReadyProgram }
-    ensures nets { IfOk result (λ q. q.nets ≡ program.nets) }
-    ensures serves { IfOk result (ServesFor program) }
+pub fn as_laid(program: &Program) -> Result<Vec<u32>, AllocError>
+    ensures { IfOk result (λ order. IsRunOrder (program_covers program.now) order.items) }
 {
-    let alloc = *program.steps.allocator();
-    let order = propose(alloc, &program)?;
-    let steps = steps_at(alloc, program.steps.as_slice(), order.as_slice())?;
-    let last = last_writes(alloc, program.nets as usize + 1, steps.as_slice())?;
-    take_steps(&mut program, steps, last.as_slice());
-    Ok(program)
+    match u32::try_from(program.steps.len()) {
+        Ok(count) => numbers_below(*program.steps.allocator(), count),
+        Err(_) => Err(AllocError),
+    }
+}
+
+/// An order in which a program may be run: by level and width where that passes its test, else as its steps stand.
+///
+/// # Errors
+/// Where there is no memory.
+pub fn by_level(program: &Program) -> Result<Vec<u32>, AllocError>
+    requires { IsProgram program.now }
+    ensures { IfOk result (λ order. IsRunOrder (program_covers program.now) order.items) }
+{
+    let order = propose(*program.steps.allocator(), program)?;
+    if may_run_in(program, order.as_slice())? {
+        return Ok(order);
+    }
+    as_laid(program)
 }

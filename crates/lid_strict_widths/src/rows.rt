@@ -48,7 +48,7 @@ fn value_by_rows(on: bool, cubes: &[Cube], nets: &[u32], bits: &[bool]) -> bool
 
 /// The value of the cover of a step, whatever its width.
 pub(crate) fn value_of_step(program: &Program, step: ProgramStep, bits: &[bool]) -> bool
-    requires step { IsStep program.now.nets 6 program.now.reads.items program.now.cubes.items step }
+    requires step { IsStep program.now.nets program.now.reads.items program.now.cubes.items step }
     requires below { AllByRecursion (λ k. k < length bits.now) program.now.reads.items }
     ensures { result ≡ cover_value (step_cover program.now.cubes.items step) (map (bit_at bits.now) (take step.width (drop step.first program.now.reads.items))) }
 {

@@ -1,6 +1,6 @@
 //! One row: the covers of a program are run, group by group.
 
-ghost use Rattle.std.specs.Prelude.{◌≡◌, ◌≤◌, ◌<◌, ◌+◌, ℕ, Bool, List, length, map};
+ghost use Rattle.std.specs.Prelude.{◌≡◌, ◌≤◌, ◌<◌, ◌+◌, ℕ, Bool, List, length, map, Some, slice_get};
 ghost use Rattle.std.specs.List.{AllByRecursion};
 ghost use Rattle.lid_strict_engine.specs.Truth.{is_set, IsTruthTable};
 ghost use Rattle.lid_cover.specs.declared.Cover.{Cover};
@@ -8,11 +8,13 @@ ghost use Rattle.lid_cover.specs.Cover.{cover_value};
 ghost use Rattle.lid_design.specs.Flat.{IsRow, ReadEarlier};
 ghost use Rattle.lid_strict_engine.specs.Programs.{program_covers};
 ghost use Rattle.lid_strict_engine.specs.Rows.{bit_at, AreRightAt, known_after};
-ghost use Rattle.lid_strict_widths.specs.Groups.{IsGroup, IsByWidth, reads_before, RightUpTo};
+ghost use Rattle.lid_strict_widths.specs.Steps.{reads_before};
+ghost use Rattle.lid_strict_widths.specs.Groups.{IsGroup, run_steps, run_covers, IsByWidth, RightUpTo};
 
 use crate::group::{ByWidth, Group};
 use crate::packing::{Five, Four, One, Packing, Six, Three, Two};
 use crate::rows::value_of_step;
+use lid_strict_engine::ProgramStep;
 
 /// A bit of a truth table.
 fn bit_of(table: u64, place: u64) -> bool
@@ -35,14 +37,14 @@ fn value_by_table<P: Packing>(table: u64, nets: &[u32], bits: &[bool]) -> bool
 /// Runs the steps of a group of this width by their truth tables, and answers where the reads after theirs begin.
 fn settle_by<P: Packing>(x: &ByWidth, group: Group, reads_at: usize, bits: &mut [bool]) -> usize
     requires is { IsByWidth x.now }
-    requires group { IsGroup x.now.program.steps.items group }
+    requires group { IsGroup (run_steps x.now) group }
     requires width { group.width ≡ P.width }
     requires few { group.width ≤ 6 }
-    requires at { reads_at ≡ reads_before x.now.program.steps.items group.start }
-    requires size { length bits.old ≡ x.now.program.nets + 1 }
-    ensures at { result ≡ reads_before x.now.program.steps.items group.end }
+    requires at { reads_at ≡ reads_before (run_steps x.now) group.start }
+    requires size { x.now.program.nets ≤ length bits.old }
+    ensures at { result ≡ reads_before (run_steps x.now) group.end }
     ensures size { length bits.new ≡ length bits.old }
-    ensures bits { RightUpTo (program_covers x.now.program) group.start bits.old group.end bits.new }
+    ensures bits { RightUpTo (run_covers x.now) group.start bits.old group.end bits.new }
 {
     let width = group.width as usize;
     let mut at = reads_at;
@@ -55,19 +57,28 @@ fn settle_by<P: Packing>(x: &ByWidth, group: Group, reads_at: usize, bits: &mut 
     at
 }
 
+/// The step that is run after so many others.
+fn step_at(x: &ByWidth, i: usize) -> ProgramStep
+    requires is { IsByWidth x.now }
+    requires within { i < length (run_steps x.now) }
+    ensures { slice_get (run_steps x.now) i ≡ Some result }
+{
+    x.program.steps[x.order[i] as usize]
+}
+
 /// Runs the steps of a group by the rows of their covers, and answers where the reads after theirs begin.
 fn settle_by_rows(x: &ByWidth, group: Group, reads_at: usize, bits: &mut [bool]) -> usize
     requires is { IsByWidth x.now }
-    requires group { IsGroup x.now.program.steps.items group }
-    requires at { reads_at ≡ reads_before x.now.program.steps.items group.start }
-    requires size { length bits.old ≡ x.now.program.nets + 1 }
-    ensures at { result ≡ reads_before x.now.program.steps.items group.end }
+    requires group { IsGroup (run_steps x.now) group }
+    requires at { reads_at ≡ reads_before (run_steps x.now) group.start }
+    requires size { x.now.program.nets ≤ length bits.old }
+    ensures at { result ≡ reads_before (run_steps x.now) group.end }
     ensures size { length bits.new ≡ length bits.old }
-    ensures bits { RightUpTo (program_covers x.now.program) group.start bits.old group.end bits.new }
+    ensures bits { RightUpTo (run_covers x.now) group.start bits.old group.end bits.new }
 {
     let mut at = reads_at;
     for i in group.start..group.end {
-        let step = x.program.steps[i];
+        let step = step_at(x, i);
         let value = value_of_step(&x.program, step, bits);
         bits[step.out as usize] = value;
         at += step.width as usize;
@@ -78,12 +89,12 @@ fn settle_by_rows(x: &ByWidth, group: Group, reads_at: usize, bits: &mut [bool])
 /// Runs the steps of a group, and answers where the reads after theirs begin.
 fn settle_group(x: &ByWidth, group: Group, reads_at: usize, bits: &mut [bool]) -> usize
     requires is { IsByWidth x.now }
-    requires group { IsGroup x.now.program.steps.items group }
-    requires at { reads_at ≡ reads_before x.now.program.steps.items group.start }
-    requires size { length bits.old ≡ x.now.program.nets + 1 }
-    ensures at { result ≡ reads_before x.now.program.steps.items group.end }
+    requires group { IsGroup (run_steps x.now) group }
+    requires at { reads_at ≡ reads_before (run_steps x.now) group.start }
+    requires size { x.now.program.nets ≤ length bits.old }
+    ensures at { result ≡ reads_before (run_steps x.now) group.end }
     ensures size { length bits.new ≡ length bits.old }
-    ensures bits { RightUpTo (program_covers x.now.program) group.start bits.old group.end bits.new }
+    ensures bits { RightUpTo (run_covers x.now) group.start bits.old group.end bits.new }
 {
     match group.width {
         1 => settle_by::<One>(x, group, reads_at, bits),
@@ -100,7 +111,7 @@ fn settle_group(x: &ByWidth, group: Group, reads_at: usize, bits: &mut [bool]) -
 /// outputs of covers before it alone, then they are right at the outputs of all covers too.
 pub fn settle_by_width(x: &ByWidth, bits: &mut [bool])
     requires is { IsByWidth x.now }
-    requires size { length bits.old ≡ x.now.program.nets + 1 }
+    requires size { x.now.program.nets ≤ length bits.old }
     ensures size { length bits.new ≡ length bits.old }
     ensures bits { (f : ℕ → Bool) (known : List ℕ) → IsRow (program_covers x.now.program) f → ReadEarlier known (program_covers x.now.program)
         → AreRightAt f known bits.old → AreRightAt f (known_after known (program_covers x.now.program)) bits.new }

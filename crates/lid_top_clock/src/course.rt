@@ -58,7 +58,8 @@ impl Course {
     }
 
     /// Starts the run of a task, of which the first row is given, where there are rows. It has the width of the
-    /// source. So many workers make its cycles, or stalls hold it, where some are given; their cycles ascend.
+    /// source. Stalls hold it, where some are given, whose cycles ascend. Where none are, workers make its cycles, if
+    /// there are two of them or more.
     ///
     /// # Errors
     /// Where there is no memory.

@@ -68,9 +68,9 @@ fn tell_run<S: Shelf, O: Sink, R: Threads + Sync, G: Gate>(
 /// the run to `out`: the output rows below their header line, how many cycles were made and how often each
 /// node fired, and a trace of at most so many cycles, where one is wanted. Where stalls are given, their
 /// cycles ascend, the source and the sink are held as they say, and it is told in how many cycles somebody
-/// was held; nobody is held where none are given, and then the workers make the cycles. A row is fetched only when it is needed, an output row is
-/// pushed after the cycle in which the sink fired for it, and a piece is written as soon as 65,536 bytes are
-/// held.
+/// was held; nobody is held where none are given, and then two workers or more make the cycles, or this
+/// thread alone. A row is fetched only when it is needed, an output row is pushed after the cycle in which the
+/// sink fired for it, and a piece is written as soon as 65,536 bytes are held.
 ///
 /// # Errors
 /// After a fault a first part of the text was written: of that of all rows that begin with those that the

@@ -14,7 +14,8 @@ returns c =
     let one = early.ensures.shown ∙ ap (λ (ms : List Bool). filter (is_picked (bit_at ms) true) f.covers) c.as_slice.ensures.value in
     let two = late.ensures.shown ∙ ap (λ (ms : List Bool). filter (is_picked (bit_at ms) false) f.covers) c.as_slice-2.ensures.value in
     record {
-      ordered = is_ordered f c.requires m marked early.early late.late one two early.ensures.ready late.ensures.ready early.ensures.nets late.ensures.nets;
-      split = plan_split f c.requires m marked early.early late.late one two;
-      rules = plan_earlier f c.requires m marked early.early late.late one two;
+      is = (early.ensures.is, late.ensures.is);
+      ordered = is_ordered f c.requires m marked early.early.program late.late.program one two early.ensures.nets late.ensures.nets;
+      split = plan_split f c.requires m marked early.early.program late.late.program one two;
+      rules = plan_earlier f c.requires m marked early.early.program late.late.program one two;
     }

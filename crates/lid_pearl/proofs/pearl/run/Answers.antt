@@ -12,13 +12,13 @@ returns-clause-state c f early late state inputs =
     let plan = c.args.plan.now in
     let latches = shape.latches.items in
     let ins = shape.ins.items in
-    let known = early_nets latches plan.early in
+    let known = early_nets latches plan.early.program in
     let put = c.put_bits.ensures.bits f known (ap (map f) c.as_slice.ensures.value ∙ inputs) (c.requires.kept.settled f early state) in
     let put' = subst (λ (ks : List ℕ). AreRightAt f (ks ++ known) c.put_bits.new.bits) c.as_slice.ensures.value put in
-    let run = c.settle.ensures.bits f (ins ++ known) late c.requires.kept.ordered.late_reads put' in
+    let run = c.settle_by_width.ensures.bits f (ins ++ known) late c.requires.kept.ordered.late_reads put' in
     c.take_state.ensures
-    ∙ ap (λ (ls : List FlatLatch). map (bit_at c.settle.new.bits) (map latch_input ls)) c.as_slice-latches.ensures.value
-    ∙ agrees_all f (late_nets ins latches plan.early plan.late) c.settle.new.bits (map latch_input latches) run c.requires.kept.ordered.taken_known
+    ∙ ap (λ (ls : List FlatLatch). map (bit_at c.settle_by_width.new.bits) (map latch_input ls)) c.as_slice-latches.ensures.value
+    ∙ agrees_all f (late_nets ins latches plan.early.program plan.late.program) c.settle_by_width.new.bits (map latch_input latches) run c.requires.kept.ordered.taken_known
 
 pub returns-clause-outs : goal.returns-clause-outs
 returns-clause-outs c f early state =
@@ -27,7 +27,7 @@ returns-clause-outs c f early state =
     let latches = shape.latches.items in
     let value = c.as_slice-latches.ensures.value in
     let settled = c.settle_state.ensures.settled f early (ap (λ (ls : List FlatLatch). map f (held ls)) value ∙ state) in
-    let settled' = subst (λ (ls : List FlatLatch). AreRightAt f (early_nets ls plan.early) c.settle_state.new.bits) value settled in
+    let settled' = subst (λ (ls : List FlatLatch). AreRightAt f (early_nets ls plan.early.program) c.settle_state.new.bits) value settled in
     c.take_bits.ensures
     ∙ ap (map (bit_at c.settle_state.new.bits)) c.as_slice-2.ensures.value
-    ∙ agrees_all f (early_nets latches plan.early) c.settle_state.new.bits shape.outs.items settled' c.requires.kept.ordered.outs_early
+    ∙ agrees_all f (early_nets latches plan.early.program) c.settle_state.new.bits shape.outs.items settled' c.requires.kept.ordered.outs_early

@@ -6,6 +6,6 @@ use Rattle.lid_pearl.proofs.split.lay_out.Given as goal
 
 abbrev pub invariant-loop-i : goal.invariant-loop-i
 invariant-loop-i l =
-    IsProgram 0 l.program
+    IsProgram l.program
     × (l.program.nets ≡ l.flat.nets)
     × (program_covers l.program ≡ filter (is_picked (bit_at l.marks) l.wanted) (take l.i l.flat.covers))

@@ -6,7 +6,7 @@ use Rattle.lid_strict.proofs.layout.lay_out.Given as goal
 
 abbrev pub invariant-loop-number : goal.invariant-loop-number
 invariant-loop-number l =
-    IsProgram 0 l.layout.program
+    IsProgram l.layout.program
     × (l.layout.program.nets ≡ length l.drivers)
     × (program_covers l.layout.program ≡ network_covers (map (shown_driver l.design) l.drivers) (take l.number-index l.order))
     × (l.layout.ins.items ≡ nets_in (map (shown_driver l.design) l.drivers) (take l.number-index l.order))

@@ -1,4 +1,4 @@
-use Rattle.std.proofs.Common.{◌≡◌, ◌+◌, length}
+use Rattle.std.proofs.Common.{◌≡◌, length}
 use Rattle.lid_strict.specs.Layouts.{IsStrictRun}
 use Rattle.lid_strict.proofs.simulation.run_rows.Given as goal
 
@@ -6,5 +6,5 @@ abbrev pub invariant-loop-t : goal.invariant-loop-t
 invariant-loop-t l =
     (length l.state ≡ length l.run.layout.now.latches.items)
     × (length l.inputs ≡ length l.run.layout.now.places.items)
-    × (length l.bits ≡ l.run.layout.now.program.nets + 1)
+    × (length l.bits ≡ l.run.layout.now.program.nets)
     × IsStrictRun l.run.layout.now l.run.outs.now l.run.rows.now l.t l.state l.results.items

@@ -1,5 +1,6 @@
 use Rattle.std.proofs.Common.{◌≡◌, ℕ, Bool, List, ◌<◌, length, map, sym, subst}
 use Rattle.std.specs.List.{AllByRecursion}
+use Rattle.lid_base.proofs.Results.{if_ok}
 use Rattle.lid_design.specs.Network.{Table, IsStrict}
 use Rattle.lid_design.specs.Columns.{IsStrictOutput}
 use Rattle.lid_check_digraph.specs.Graphs.{IsOrder}
@@ -9,7 +10,6 @@ use Rattle.lid_strict.specs.Networks.{AreHeldBelow, driver_list, reads_of, rows_
 use Rattle.lid_check_parts.specs.Parts.{HasCover}
 use Rattle.lid_check.proofs.Flats.{covers}
 use Rattle.lid_strict.proofs.Outputs.{held_below, strict_output}
-use Rattle.lid_strict.proofs.Running.{if_ok}
 use Rattle.lid_strict.proofs.whole.run.Goals as goal
 
 pub simulate-requires-clause-ordered : goal.simulate-requires-clause-ordered
@@ -40,8 +40,9 @@ returns c =
     let d = c.args.design.now in
     let n = c.args.network.now in
     let rows = c.args.rows.now in
-    if_ok (λ (out : List (List Bool)). (b : Table ℕ) → IsStrict (driver_list (map (shown_driver d) c.as_slice-drivers.result.now)) rows b → out ≡ rows_at c.as_slice-outs.result.now b (length rows)) (IsStrictOutput d rows)
+    if_ok {P = λ (out : List (List Bool)). (b : Table ℕ) → IsStrict (driver_list (map (shown_driver d) c.as_slice-drivers.result.now)) rows b → out ≡ rows_at c.as_slice-outs.result.now b (length rows)} {Q = IsStrictOutput d rows}
+    c.simulate.result
     (λ out every. strict_output d n.columns.drivers n.columns.starts c.requires.network.elaborated n.order n.outputs c.requires.network.ordered c.requires.network.outputs rows out
     (subst (λ (outs : List ℕ). (b : Table ℕ) → IsStrict (driver_list (map (shown_driver d) n.columns.drivers)) rows b → out ≡ rows_at outs b (length rows)) c.as_slice-outs.ensures
     (subst (λ (ds : List ColumnDriver). (b : Table ℕ) → IsStrict (driver_list (map (shown_driver d) ds)) rows b → out ≡ rows_at c.as_slice-outs.result.now b (length rows)) c.as_slice-drivers.ensures every)))
-    c.simulate.result c.simulate.ensures
+    c.simulate.ensures

@@ -1,5 +1,5 @@
 use Rattle.std.proofs.Common.{◌≡◌, ◌++◌, map, drop}
-use Rattle.lid_strict_widths.specs.Groups.{step_out}
+use Rattle.lid_strict_widths.specs.Steps.{step_out}
 use Rattle.lid_strict_widths.proofs.building.outs_of.Given as goal
 
 abbrev pub invariant-loop-step : goal.invariant-loop-step

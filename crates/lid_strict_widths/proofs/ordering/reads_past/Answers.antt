@@ -1,8 +1,5 @@
-use Rattle.std.proofs.Common.{◌≡◌, ◌⊎◌, ◌<◌, ◌≤◌, ℕ, length, Some, slice_get, get_or, inl, inr, refl, sym, subst, arith}
-use Rattle.std.specs.List.{AllByRecursion}
+use Rattle.std.proofs.Common.{◌≤◌, get_or, arith}
 use Rattle.std.proofs.lemmas.Option.{slice_get_within}
-use Rattle.lid_strict_engine.specs.declared.program.ProgramStep.{ProgramStep}
-use Rattle.lid_strict_widths.specs.Groups.{own_reads}
 use Rattle.lid_strict_widths.proofs.Standing.{own_exact, reads_more}
 use Rattle.lid_strict_widths.proofs.ordering.reads_past.Goals as goal
 

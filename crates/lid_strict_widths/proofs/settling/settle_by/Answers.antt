@@ -1,8 +1,8 @@
-use Rattle.std.proofs.Common.{◌≡◌, ◌+◌, ◌-◌, ◌<◌, ℕ, length, take, drop, subst, sym, ◌∙◌, ap, arith}
+use Rattle.std.proofs.Common.{◌≡◌, ◌+◌, ◌-◌, ◌<◌, ◌≤◌, ℕ, length, take, drop, subst, sym, ◌∙◌, ap, arith}
 use Rattle.std.specs.List.{AllByRecursion}
 use Rattle.std.proofs.lemmas.List.{length-set}
-use Rattle.lid_strict_engine.specs.Programs.{program_covers}
-use Rattle.lid_strict_widths.specs.Groups.{RightUpTo}
+use Rattle.lid_base.proofs.Alls.{all_weaker}
+use Rattle.lid_strict_widths.specs.Groups.{run_steps, run_covers, RightUpTo}
 use Rattle.lid_strict_widths.proofs.Going.{hand_at, nets_at, value_at, told_of, right_next}
 use Rattle.lid_strict_widths.proofs.settling.settle_by.Goals as goal
 
@@ -48,8 +48,9 @@ value_by_table-value-requires-clause-below g c =
     let h = hand_at c.args.x.now i c.requires.is (omega arith) in
     let wide = c.requires.group.wide i h.s (omega arith) c.loop-i-test.true h.here in
     let nets = nets_at c.args.x.now i c.loop-i.at c.args.group.width c.as_slice.result.now h c.loop-i.invariant.1 (sym wide) c.as_slice.ensures.value in
-    subst (λ (n : ℕ). AllByRecursion (λ k. k < n) (take (c.loop-i.at + c.args.group.width - c.loop-i.at) (drop c.loop-i.at c.as_slice.result.now))) (sym (c.loop-i.invariant.0 ∙ c.requires.size))
-    (subst (AllByRecursion (λ k. k < c.args.x.now.program.nets + 1)) (sym nets) h.below)
+    let size : c.args.x.now.program.nets ≤ length c.loop-i.bits = subst (λ (n : ℕ). c.args.x.now.program.nets ≤ n) (sym c.loop-i.invariant.0) c.requires.size in
+    all_weaker (λ k. k < c.args.x.now.program.nets) (λ k. k < length c.loop-i.bits) (take (c.loop-i.at + c.args.group.width - c.loop-i.at) (drop c.loop-i.at c.as_slice.result.now)) (λ k below. omega arith)
+    (subst (AllByRecursion (λ k. k < c.args.x.now.program.nets)) (sym nets) h.below)
 
 pub bounds-bits-index : goal.bounds-bits-index
 bounds-bits-index g c =
@@ -59,7 +60,7 @@ bounds-bits-index g c =
     let wide = c.requires.group.wide i h.s (omega arith) c.loop-i-test.true h.here in
     let out = told_of c.args.x.now.outs.items i h.s.out c.index-in-loop-i.result.now h.is_out c.index-in-loop-i.ensures in
     let below = h.step.out in
-    let size : length c.loop-i.bits ≡ c.args.x.now.program.nets + 1 = c.loop-i.invariant.0 ∙ c.requires.size in
+    let size : c.args.x.now.program.nets ≤ length c.loop-i.bits = subst (λ (n : ℕ). c.args.x.now.program.nets ≤ n) (sym c.loop-i.invariant.0) c.requires.size in
     omega arith
 
 pub loop-i-preserved : goal.loop-i-preserved
@@ -70,7 +71,7 @@ loop-i-preserved g c =
     let wide = c.requires.group.wide i h.s (omega arith) c.loop-i-test.true h.here in
     let out = told_of c.args.x.now.outs.items i h.s.out c.index-in-loop-i.result.now h.is_out c.index-in-loop-i.ensures in
     let below = h.step.out in
-    let size : length c.loop-i.bits ≡ c.args.x.now.program.nets + 1 = c.loop-i.invariant.0 ∙ c.requires.size in
+    let size : c.args.x.now.program.nets ≤ length c.loop-i.bits = subst (λ (n : ℕ). c.args.x.now.program.nets ≤ n) (sym c.loop-i.invariant.0) c.requires.size in
     let nets = nets_at c.args.x.now i c.loop-i.at c.args.group.width c.as_slice.result.now h c.loop-i.invariant.1 (sym wide) c.as_slice.ensures.value in
     let table = told_of c.args.x.now.tables.items i h.s.table c.index.result.now h.is_table c.index.ensures in
     let few = c.requires.few in
@@ -79,8 +80,8 @@ loop-i-preserved g c =
     let at = c.loop-i.invariant.1 in (
       length-set c.loop-i.bits c.index-in-loop-i.result.now c.value_by_table-value.result ∙ c.loop-i.invariant.0,
       omega arith,
-      right_next c.args.x.now.program h.s i c.args.group.start c.index-in-loop-i.result.now c.args.bits.now c.loop-i.bits c.value_by_table-value.result h.here (omega arith) out value c.loop-i.invariant.2,
+      right_next (run_steps c.args.x.now) c.args.x.now.program.reads.items c.args.x.now.program.cubes.items h.s i c.args.group.start c.index-in-loop-i.result.now c.args.bits.now c.loop-i.bits c.value_by_table-value.result h.here (omega arith) out value c.loop-i.invariant.2,
     )
 
 pub returns-clause-bits : goal.returns-clause-bits
-returns-clause-bits g c = subst (λ (n : ℕ). RightUpTo (program_covers c.args.x.now.program) c.args.group.start c.args.bits.now n c.loop-i.bits) (let order = c.requires.group.order in omega arith) c.loop-i.invariant.2
+returns-clause-bits g c = subst (λ (n : ℕ). RightUpTo (run_covers c.args.x.now) c.args.group.start c.args.bits.now n c.loop-i.bits) (let order = c.requires.group.order in omega arith) c.loop-i.invariant.2

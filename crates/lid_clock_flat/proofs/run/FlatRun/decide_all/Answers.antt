@@ -4,7 +4,7 @@ use Rattle.lid_clock.specs.Lives.{Life, Holds}
 use Rattle.lid_clock.specs.States.{actors_of}
 use Rattle.lid_clock_flat.specs.declared.run.FlatRun.{FlatRun}
 use Rattle.lid_clock_flat.specs.Wakings.{IsNextSet, DecidedTo, KeepsRows}
-use Rattle.lid_clock_flat.proofs.Waking.{passed}
+use Rattle.lid_clock_flat.proofs.Waking.{passed, mover_number}
 use Rattle.lid_clock_flat.proofs.run.FlatRun.decide_all.Goals as goal
 use Rattle.lid_clock_flat.proofs.run.FlatRun.decide_all.Goals.{then-actor-nodes, else-actor-nodes}
 
@@ -20,10 +20,6 @@ loop-actor-init c =
       kept = record { rows = refl; given = refl };
     }
 
--- the number of an actor after the nodes
-number : (x : FlatRun) (nodes actor : ℕ) → nodes ≡ length x.nodes.items → nodes ≤ actor → actor ≡ length x.nodes.items + (actor - nodes)
-number x nodes actor many past = omega (arith, many)
-
 pub decide_at_node-requires : goal.decide_at_node-requires
 decide_at_node-requires c =
     let inv = c.loop-actor.invariant in
@@ -37,7 +33,7 @@ decide_at_mover-requires c =
     let q = c.requires in
     let x = c.loop-actor.self in
     let now = inv.decided q.0 q.1 q.2 q.3 q.4 in
-    let same = number x c.len-nodes.result c.loop-actor.actor (omega (arith, inv.nodes, now.nodes, (q.4).nodes)) (omega arith) in
+    let same = mover_number x c.len-nodes.result c.loop-actor.actor (omega (arith, inv.nodes, now.nodes, (q.4).nodes)) (omega arith) in
     (q.0, q.1, q.2, q.3, subst (λ (v : ℕ). DecidedTo q.0 q.1 q.2 v x) same now, omega (arith, same, c.loop-actor-test.true, now.asleep.many, now.movers, now.nodes))
 
 pub next_set-actor-requires-in-loop-actor : goal.next_set-actor-requires-in-loop-actor
@@ -51,7 +47,7 @@ next_set-actor-requires-in-loop-actor c =
     let done : DecidedTo q.0 q.1 q.2 (n + 1) c.if-actor-nodes.self = elim c.if-actor-nodes.branch [
       | then-actor-nodes w ↦ subst (DecidedTo q.0 q.1 q.2 (n + 1)) (sym w.self-is) (w.decide_at_node.ensures.is q.0 q.1 q.2 q.3 now)
       | else-actor-nodes w ↦
-          let same = number x c.len-nodes.result n many (omega (arith, w.if-actor-nodes.false)) in
+          let same = mover_number x c.len-nodes.result n many (omega (arith, w.if-actor-nodes.false)) in
           subst (λ (v : ℕ). DecidedTo q.0 q.1 q.2 (v + 1) c.if-actor-nodes.self) (sym same)
           (subst (DecidedTo q.0 q.1 q.2 ((length x.nodes.items + (n - c.len-nodes.result)) + 1)) (sym w.self-is) (w.decide_at_mover.ensures.is q.0 q.1 q.2 q.3 (subst (λ (v : ℕ). DecidedTo q.0 q.1 q.2 v x) same now)))
     ] in
@@ -84,7 +80,7 @@ loop-actor-preserved c =
     elim c.if-actor-nodes.branch [
       | then-actor-nodes w ↦ subst (DecidedTo l k g (n + 1)) (sym w.self-is) (w.decide_at_node.ensures.is l k g holds now)
       | else-actor-nodes w ↦
-          let same = number x c.len-nodes.result n many (omega (arith, w.if-actor-nodes.false)) in
+          let same = mover_number x c.len-nodes.result n many (omega (arith, w.if-actor-nodes.false)) in
           subst (λ (v : ℕ). DecidedTo l k g (v + 1) y) (sym same)
           (subst (DecidedTo l k g ((length x.nodes.items + (n - c.len-nodes.result)) + 1)) (sym w.self-is) (w.decide_at_mover.ensures.is l k g holds (subst (λ (v : ℕ). DecidedTo l k g v x) same now)))
     ]

@@ -3,6 +3,7 @@ use Rattle.std.proofs.Common.{◌≡◌, ℕ, ◌+◌, ◌-◌, ◌<◌, ◌≤�
 use Rattle.lid_clock_flat.specs.declared.run.FlatRun.{FlatRun}
 use Rattle.lid_clock_flat.specs.Wakings.{IsNextSet}
 use Rattle.lid_clock_flat.specs.Ends.{SettledTo, HasFired}
+use Rattle.lid_clock_flat.proofs.Waking.{mover_number}
 use Rattle.lid_clock_flat.proofs.Ending.{none_settled, settled_on}
 use Rattle.lid_clock_flat.proofs.run.FlatRun.settle_all.Goals as goal
 use Rattle.lid_clock_flat.proofs.run.FlatRun.settle_all.Goals.{then-actor-nodes, else-actor-nodes}
@@ -19,10 +20,6 @@ loop-actor-init c =
       next = next.set;
     }
 
--- the number of an actor after the nodes
-number : (x : FlatRun) (nodes actor : ℕ) → nodes ≡ length x.nodes.items → nodes ≤ actor → actor ≡ length x.nodes.items + (actor - nodes)
-number x nodes actor many past = omega (arith, many)
-
 pub settle_at_node-requires : goal.settle_at_node-requires
 settle_at_node-requires c =
     let inv = c.loop-actor.invariant in
@@ -32,7 +29,7 @@ pub settle_at_mover-requires : goal.settle_at_mover-requires
 settle_at_mover-requires c =
     let inv = c.loop-actor.invariant in
     let x = c.args.self.now in
-    let same = number x c.len-nodes.result c.loop-actor.actor inv.nodes (omega arith) in
+    let same = mover_number x c.len-nodes.result c.loop-actor.actor inv.nodes (omega arith) in
     let d = (c.requires).3 in (
       x,
       c.requires,
@@ -52,7 +49,7 @@ loop-actor-preserved c =
     let done : SettledTo (n + 1) x y = elim c.if-actor-nodes.branch [
       | then-actor-nodes w ↦ subst (SettledTo (n + 1) x) (sym w.self-is) (w.settle_at_node.ensures x c.requires inv.settled (inv.next low) (omega (arith, inv.nodes, w.if-actor-nodes.true)))
       | else-actor-nodes w ↦
-          let same = number x c.len-nodes.result n inv.nodes (omega (arith, w.if-actor-nodes.false)) in
+          let same = mover_number x c.len-nodes.result n inv.nodes (omega (arith, w.if-actor-nodes.false)) in
           subst (λ (v : ℕ). SettledTo (v + 1) x y) (sym same)
           (subst (SettledTo ((length x.nodes.items + (n - c.len-nodes.result)) + 1) x) (sym w.self-is)
           (w.settle_at_mover.ensures x c.requires (subst (λ (v : ℕ). SettledTo v x c.loop-actor.self) same inv.settled) (subst (λ (v : ℕ). HasFired v x) same (inv.next low))

@@ -1,7 +1,5 @@
 use Rattle.std.proofs.Common.{◌∙◌}
-use Rattle.lid_strict_engine.specs.Programs.{IsReadyProgram}
-use Rattle.lid_pearl.specs.declared.pearl.Plan.{Plan}
-use Rattle.lid_pearl.proofs.Copying.{kept_by_equals, of_ok}
+use Rattle.lid_pearl.proofs.Copying.{kept_by_equals}
 use Rattle.lid_pearl.proofs.pearl.Pearl.copy.Goals as goal
 
 pub invariant_of-result : goal.invariant_of-result
@@ -14,5 +12,4 @@ invariant_of-result c =
     let one = c.in_ok-shape.ensures in
     let two = c.in_ok-plan.ensures in
     let three = c.in_ok-row.ensures in
-    let ready = of_ok (λ (copy : Plan). IsReadyProgram copy.early × IsReadyProgram copy.late) c.copy_plan.result plan c.in_ok-plan.was (c.copy_plan.ensures.ready kept.ordered.early_ready kept.ordered.late_ready) in
-    kept_by_equals i.shape.nets i.shape.ins.items i.shape.outs.items i.shape.latches.items i.plan.early i.plan.late plan.early plan.late i.row.state.items i.row.bits.items ready.0 ready.1 two.nets.0 two.nets.1 two.shown.0 two.shown.1 shape.nets shape.ins.items shape.outs.items shape.latches.items row.state.items row.bits.items one.nets (one.ins ∙ c.as_slice.ensures.value) (one.outs ∙ c.as_slice-2.ensures.value) (one.latches ∙ c.as_slice-3.ensures.value) three.state three.bits kept
+    kept_by_equals i.shape.nets i.shape.ins.items i.shape.outs.items i.shape.latches.items i.plan.early i.plan.late plan.early plan.late i.row.state.items i.row.bits.items two.is.0 two.is.1 two.nets.0 two.nets.1 two.early two.late shape.nets shape.ins.items shape.outs.items shape.latches.items row.state.items row.bits.items one.nets (one.ins ∙ c.as_slice.ensures.value) (one.outs ∙ c.as_slice-2.ensures.value) (one.latches ∙ c.as_slice-3.ensures.value) three.state three.bits kept

@@ -12,8 +12,8 @@ returns-clause-rules c =
     let shape = c.in_ok-shape.shape in
     let plan = c.in_ok-plan.plan in
     let is = c.in_ok-shape.ensures in
-    let first = program_covers plan.early in
-    let second = program_covers plan.late in
+    let first = program_covers plan.early.program in
+    let second = program_covers plan.late.program in
     let g : Flat = flat_of shape.nets shape.ins.items shape.outs.items shape.latches.items (first ++ second) in
     let re : IsReordered f g = record { nets = is.nets; ins = is.ins ∙ c.as_slice.ensures; outs = is.outs ∙ c.as_slice-2.ensures; latches = is.latches ∙ c.as_slice-3.ensures; covers = (first, second, refl, c.in_ok-plan.ensures.split) } in
     subst IsFlat (sym (reordered_is f g re)) (reordered_flat f first second c.in_ok-plan.ensures.split c.requires c.in_ok-plan.ensures.rules)

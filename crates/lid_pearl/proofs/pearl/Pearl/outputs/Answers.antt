@@ -14,5 +14,5 @@ returns c =
     let outs = i.shape.outs.items in
     let written = c.take_bits.ensures ∙ ap (λ (bs : List Bool). map (bit_at bs) c.as_slice-2.result.now) c.as_slice.ensures.value ∙ ap (map (bit_at bits)) c.as_slice-2.ensures.value in
     subst (λ (v : View). Shows v c.take_bits.new.into) c.self.view_is
-    (shows_of i.shape.nets i.shape.ins.items outs i.shape.latches.items i.plan.early i.plan.late i.row.state.items c.take_bits.new.into
-    (λ f early state. written ∙ agrees_all f (early_nets i.shape.latches.items i.plan.early) bits outs (kept.settled f early state) kept.ordered.outs_early))
+    (shows_of i.shape.nets i.shape.ins.items outs i.shape.latches.items i.plan.early.program i.plan.late.program i.row.state.items c.take_bits.new.into
+    (λ f early state. written ∙ agrees_all f (early_nets i.shape.latches.items i.plan.early.program) bits outs (kept.settled f early state) kept.ordered.outs_early))

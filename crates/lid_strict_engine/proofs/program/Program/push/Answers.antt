@@ -14,7 +14,7 @@ returns-clause-laid c =
     let rows = c.in_ok-cubes.ensures.items ∙ ap (λ (cs : List Cube). p.cubes.items ++ cs) c.as_slice.ensures in
     record {
       reads = pushed_reads p.nets p.reads.items c.args.ins.now reads c.in_ok-reads.ensures.items c.requires.laid.reads c.requires.ins;
-      steps = subst (AllByRecursion (IsStep p.nets 0 reads cubes)) (sym c.in_ok-push.ensures.items)
+      steps = subst (AllByRecursion (IsStep p.nets reads cubes)) (sym c.in_ok-push.ensures.items)
           (pushed_steps p.nets p.steps.items p.reads.items c.args.ins.now reads p.cubes.items cubes c.args.cover.now c.args.out c.small_table.result c.in_ok-reads.reads.start c.in_ok-cubes.cubes c.requires.laid.steps c.in_ok-reads.ensures.items rows c.in_ok-reads.ensures.part.0 c.in_ok-cubes.ensures.part.0 c.in_ok-cubes.ensures.part.1 c.requires.rules c.requires.width c.requires.out c.small_table.ensures);
     }
 
