@@ -1,5 +1,5 @@
 -- The certificate of a graph, from the parts of its components, and its text.
-use Rattle.std.proofs.Common.{◌≡◌, ℕ, zero, suc, ◌+◌, ◌<◌, ◌≤◌, ◌≢◌, ◌⊎◌, inl, inr, List, [], ◌∷◌, ◌++◌, length, get_or, refl, sym, ◌∙◌, ap, subst, add-one, arith}
+use Rattle.std.proofs.Common.{◌≡◌, ℕ, zero, suc, ◌≤◌, ◌≢◌, ◌⊎◌, inl, inr, List, [], ◌∷◌, ◌++◌, get_or, refl, subst, add-one, arith}
 use Rattle.std.specs.List.{All}
 use Rattle.std.proofs.lemmas.Bool.{cases_eq}
 use Rattle.std.proofs.lemmas.List.Elements.{All-append}
@@ -16,10 +16,7 @@ use Rattle.lid_rate.proofs.Found.{parts_start, parts_push, parts_skip, certifies
 use Rattle.lid_rate.proofs.Numbered.{positive}
 use Rattle.lid_rate_text.specs.Throughput.{IsRateText}
 use Rattle.lid_rate_text.proofs.Certified.{are_lists, are_full, are_small, fits}
-use Rattle.lid_system.specs.declared.System.{System}
-use Rattle.lid_system.specs.Systems.{IsWellFormed}
-use Rattle.lid_stations.specs.declared.placement.Placement.{Placement}
-use Rattle.lid_stations.specs.Placements.{links_of, Fits}
+use Rattle.lid_stations.specs.Placements.{links_of}
 use Rattle.lid_stations.specs.Markings.{marking}
 use Rattle.lid_stations.proofs.Edges.{node_count}
 use Rattle.lid_stations.proofs.Spots.{few_actors}
@@ -50,14 +47,14 @@ module _ (g : Graph) (ok : IsRateable g) where
           let one : HasPart g least n = has_part g ok least are n (omega arith) own in
           record {
             parts = before.parts ++ one.part ∷ [];
-            so = subst (λ (m : ℕ). AreParts g least m (before.parts ++ one.part ∷ [])) (sym (add-one n)) (parts_push g ok least are n before.parts one.part (omega arith) own one.is before.so);
+            so = subst (λ (m : ℕ). AreParts g least m (before.parts ++ one.part ∷ [])) (add-one n) (parts_push g ok least are n before.parts one.part (omega arith) own one.is before.so);
             small = All-append IsPartSmall before.parts (one.part ∷ []) before.small (alone one.part one.small);
           }
         where
           alone : (part : Part) → IsPartSmall part → All IsPartSmall (part ∷ [])
           alone part is zero d h = is
           alone part is (suc k) d h = absurd (omega arith)
-      by_own (inr other) before = record { parts = before.parts; so = subst (λ (m : ℕ). AreParts g least m before.parts) (sym (add-one n)) (parts_skip g ok least are n before.parts other before.so); small = before.small }
+      by_own (inr other) before = record { parts = before.parts; so = subst (λ (m : ℕ). AreParts g least m before.parts) (add-one n) (parts_skip g ok least are n before.parts other before.so); small = before.small }
 
   pub has_certificate : (cert : Cert) × IsFullCertificate g cert
   has_certificate =

@@ -1,9 +1,8 @@
 -- The part of one component.
-use Rattle.std.proofs.Common.{◌≡◌, ℕ, zero, suc, ◌+◌, ◌-◌, ◌*◌, ◌^◌, ◌<◌, ◌≤◌, ◌≢◌, ◌==◌, ◌⊎◌, inl, inr, Bool, true, false, List, [], ◌∷◌, length, get_or, map, position, Option, Some, None, is_some, refl, sym, ◌∙◌, ap, subst, arith}
-use Rattle.std.specs.Prelude.{IfSome, MatchOption}
+use Rattle.std.proofs.Common.{◌≡◌, ℕ, zero, suc, ◌+◌, ◌-◌, ◌*◌, ◌^◌, ◌<◌, ◌≤◌, ◌≢◌, ◌==◌, ◌⊎◌, inl, inr, Bool, true, false, List, [], ◌∷◌, length, get_or, map, Option, None, refl, sym, ◌∙◌, ap, subst, arith}
+use Rattle.std.specs.Prelude.{MatchOption}
 use Rattle.std.specs.List.{All, IsDistinct, list_any}
 use Rattle.std.specs.Cmp.{IsEquivalence}
-use Rattle.std.specs.Int.{IsGcd}
 use Rattle.std.proofs.lemmas.Bool.{cases_lt, cases_eq, eq-eqb, eqb-true, ne_eqb}
 use Rattle.std.proofs.lemmas.List.{length-map, get_or-map, get_or_default}
 use Rattle.std.proofs.lemmas.List.Elements.{All-map}
@@ -12,7 +11,7 @@ use Rattle.std.proofs.lemmas.Map.Keys.{apart_from_distinct}
 use Rattle.std.proofs.lemmas.Map.Made.{length-le_from_is_member}
 use Rattle.std.proofs.Math.Nat.{mul-le-mul, mul-le-mul_left}
 use Rattle.lid_graph.specs.declared.graph.Graph.{Graph}
-use Rattle.lid_graph.specs.Walks.{no_edge, edge_at, walk_start, walk_tokens, IsWalk, IsJoined}
+use Rattle.lid_graph.specs.Walks.{no_edge, edge_at, walk_start, IsWalk, IsJoined}
 use Rattle.lid_graph.specs.Ratios.{IsRatio, IsLag}
 use Rattle.lid_graph.specs.Rateable.{IsRateable}
 use Rattle.lid_graph.proofs.Journeys.{joined_step, joined_back}
@@ -20,14 +19,14 @@ use Rattle.lid_graph_laws.proofs.Alive.{ends_below}
 use Rattle.lid_graph_ratio_laws.specs.Laws.{HasRatioAndLags}
 use Rattle.lid_graph_ratio_laws.proofs.Single.{components_have_ratios}
 use Rattle.lid_cert.specs.declared.cert.Part.{Part}
-use Rattle.lid_cert.specs.Certificates.{ascends, has_node, lag_of, lead_of, depth_of, via_of, AreLists, IsEdgeMet, IsStartMet, IsVia, IsNodeMet, IsPart, IsPartInRange}
+use Rattle.lid_cert.specs.Certificates.{has_node, lag_of, lead_of, depth_of, via_of, IsEdgeMet, IsStartMet, IsVia, IsNodeMet, IsPart, IsPartInRange}
 use Rattle.lid_cert_text.specs.Printed.{IsSmall, IsSmallVia, IsPartSmall}
 use Rattle.lid_rate_ratio.specs.Once.{MeetsOnce}
 use Rattle.lid_rate.specs.Rates.{numbers_where, AreLabels, is_labelled, IsPartOf}
 use Rattle.lid_rate.proofs.Components.{same_label, edge_label}
 use Rattle.lid_rate.proofs.Finishing.{lead_enough}
 use Rattle.lid_rate.proofs.Lagging.{lags_meet_rule}
-use Rattle.lid_rate.proofs.NumbersWhere.{Stands, those_only, those_all, those_ascends, those_has, those_has_not, those_few, column_at}
+use Rattle.lid_rate.proofs.NumbersWhere.{those_only, those_all, those_ascends, those_has, those_has_not, those_few, column_at}
 use Rattle.lid_rate_laws.proofs.Rounds.{ends, HasRound, has_round, reaches_end}
 use Rattle.lid_rate_laws.proofs.Depths as tree
 

@@ -4,11 +4,11 @@ use Rattle.std.specs.List.{IsDistinct, AllByRecursion, list_any}
 use Rattle.std.proofs.lemmas.Bool.{eqb-true}
 use Rattle.std.proofs.lemmas.List.{length-append}
 use Rattle.lid_graph.specs.declared.graph.Graph.{Graph}
-use Rattle.lid_graph.specs.Walks.{edge_at, IsWalk, IsClosedWalk, IsJoined, walk_start, walk_tokens}
+use Rattle.lid_graph.specs.Walks.{edge_at, IsWalk, IsJoined, walk_start, walk_tokens}
 use Rattle.lid_graph.specs.Ratios.{IsClosedWalkNear, IsRatio}
 use Rattle.lid_graph.proofs.Journeys.{joined_step}
 use Rattle.lid_graph_laws.proofs.Alive.{all_differ}
-use Rattle.lid_graph_ratio_laws.proofs.Splitting.{GoesRound, IsShortened, shortened, closed_at}
+use Rattle.lid_graph_ratio_laws.proofs.Splitting.{GoesRound, shortened, closed_at}
 
 -- where the edges end
 abbrev pub ends : Graph → List ℕ → List ℕ

@@ -2,7 +2,6 @@
 use Rattle.std.specs.Prelude.{ℕ, ◌≤◌, List}
 use Rattle.std.specs.List.{All}
 use Rattle.lid_graph.specs.declared.graph.Graph.{Graph}
-use Rattle.lid_graph.specs.Walks.{WalksHaveTokens}
 use Rattle.lid_graph.specs.Rateable.{IsRateable}
 use Rattle.lid_cert.specs.declared.cert.Cert.{Cert}
 use Rattle.lid_cert.specs.Certificates.{Certifies, IsInRange}

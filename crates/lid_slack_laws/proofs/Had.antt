@@ -1,6 +1,6 @@
 -- The slack of a channel: whether a ratio is kept is decided for each number of further relay stations, and the first that
 -- is kept where one more is not is the slack.
-use Rattle.std.proofs.Common.{◌≡◌, ℕ, zero, suc, ◌+◌, ◌*◌, ◌<◌, ◌≤◌, ◌⊎◌, inl, inr, true, List, length, Option, Some, None, refl, sym, ◌∙◌, ap, subst, add-one, arith}
+use Rattle.std.proofs.Common.{◌≡◌, ℕ, zero, suc, ◌+◌, ◌*◌, ◌<◌, ◌≤◌, ◌⊎◌, inl, inr, true, length, Option, Some, None, refl, ◌∙◌, ap, subst, add-one, arith}
 use Rattle.std.proofs.lemmas.Bool.{cases_lt}
 use Rattle.std.proofs.lemmas.List.{get_or_default}
 use Rattle.lid_graph.specs.declared.graph.Graph.{Graph}
@@ -24,7 +24,7 @@ use Rattle.lid_slack_longer.specs.Longer.{longer, longer_marking, producer, room
 use Rattle.lid_slack_longer.proofs.Kept.{longer_fits, none_keep}
 use Rattle.lid_slack.specs.declared.answer.Slack.{Slack}
 use Rattle.lid_slack.specs.declared.certified.Certified.{Certified}
-use Rattle.lid_slack.specs.Told.{IsCertified, IsTold, IsNextRatio}
+use Rattle.lid_slack.specs.Told.{IsCertified}
 use Rattle.lid_slack.specs.Trials.{CanTry, IsTrial, IsPresent, IsMost, IsFoundSlack}
 use Rattle.lid_slack.proofs.Tried.{producer_within, trial_is, certified_within, present_is, kept, not_kept, against, told_is, lower_found}
 use Rattle.lid_slack_laws.specs.Laws.{HasSlack, ChannelsHaveSlacks, SlacksAreUnique}

@@ -1,5 +1,5 @@
 -- The text that tells the slack of each channel.
-use Rattle.std.proofs.Common.{◌≡◌, ℕ, ◌+◌, ◌<◌, ◌≤◌, ◌⊎◌, inl, inr, List, [], ◌∷◌, length, get_or, Option, Some, None, zero-add, refl, sym, ◌∙◌, ap, subst, arith}
+use Rattle.std.proofs.Common.{ℕ, ◌<◌, ◌≤◌, ◌⊎◌, inl, inr, List, [], length, get_or, Option, Some, None, zero-add, refl, sym, ◌∙◌, ap, subst, arith}
 use Rattle.std.proofs.lemmas.Bool.{cases_lt}
 use Rattle.lid_base.specs.Each.{from_each}
 use Rattle.lid_base.proofs.Each.{each_length, each_at}
@@ -10,7 +10,6 @@ use Rattle.lid_stations.specs.declared.placement.Placement.{Placement}
 use Rattle.lid_stations.specs.Placements.{Links, links_of, Fits}
 use Rattle.lid_rate_ratio.specs.declared.lowest_terms.Ratio.{Ratio}
 use Rattle.lid_slack.specs.Told.{IsEnd, IsNextRatio}
-use Rattle.lid_slack_longer.specs.Longer.{room}
 use Rattle.lid_size_text.specs.Slacks.{slack_words, IsNextWord, next_ratio_word, IsSlackLine, IsSlackText}
 use Rattle.lid_slack_laws.specs.Laws.{HasSlack, PlacementsHaveSlackTexts}
 use Rattle.lid_slack_laws.proofs.Had.{channels_have_slacks}
