@@ -1,0 +1,5 @@
+pub mod Leading
+pub mod Heads
+pub mod Bodies
+pub mod Parsing
+pub mod Found

@@ -1,0 +1,7 @@
+//! Laws of dumps: a dump is of the form, and shows a trace, exactly as its grammar says: sections, declarations, and
+//! times with their changes.
+#![tactic(auto)]
+
+mod laws;
+
+pub use laws::dumps_show_traces;
