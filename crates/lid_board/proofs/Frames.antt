@@ -8,7 +8,7 @@ use Rattle.atomic_table.specs.Table.{State}
 use Rattle.atomic_table.proofs.Lists.{at_set}
 use Rattle.lid_station.specs.Boards.{fill, drain}
 use Rattle.lid_board.specs.Relation.{AreWithin, Kept, Related, IsPlanned, word_count, first_word, capacity_of, stream_of}
-use Rattle.lid_board.specs.Views.{EndTable, at, held, one_of, has, changed, sure, IsEarly}
+use Rattle.lid_board.specs.Views.{EndTable, at, held, one_of, has, changed, stepped_at, sure, IsEarly}
 use Rattle.lid_board.specs.declared.view.EndFacts.{EndFacts}
 use Rattle.lid_board.specs.declared.view.HandView.{HandView}
 use Rattle.lid_board.proofs.Stations.{kept_frame}
@@ -116,9 +116,9 @@ module _ {S : Type 0} (plan : EndTable) where
       → get_elem? st.views id ≡ some v → at v.ends end ≡ Some h → IsPlanned h g
       → length words ≡ length st.words → get_or words 0 0 ≡ 0
       → ((station : ℕ) → station < r.stations → Kept words (first_word plan station) (swapped r.truth end g (fill station)) (swapped r.truth end g (drain station)))
-      → Related plan (record { words = words; homes = homes; views = set st.views id (record { ends = changed v.ends end g }) })
+      → Related plan (record { words = words; homes = homes; views = set st.views id (stepped_at v end g) })
   steps st words homes id v end h g r here e same long free kept =
-      let w : HandView = record { ends = changed v.ends end g } in
+      let w : HandView = stepped_at v end g in
       let counts : (k : ℕ) → sum_by (has k) (set st.views id w) ≡ sum_by (has k) st.views =
       λ k. (let s = sum_set (has k) st.views id v w here in let t : has k w ≡ has k v = has_changed v.ends end k h g e in omega arith) in
       record {
@@ -232,7 +232,7 @@ module _ {S : Type 0} (plan : EndTable) where
   steps_at : (st : State S HandView) (homes : List (mathlib.Core.Option.Option S)) (id : ℕ) (v : HandView) (station k n end : ℕ) (h e : EndFacts) → (r : Related plan st)
       → get_elem? st.views id ≡ some v → at v.ends end ≡ Some h → IsPlanned h e → k < word_count (capacity_of plan station) → end / 2 ≡ station
       → Kept (set st.words (first_word plan station + k) n) (first_word plan station) (swapped r.truth end e (fill station)) (swapped r.truth end e (drain station))
-      → Related plan (record { words = set st.words (first_word plan station + k) n; homes = homes; views = set st.views id (record { ends = changed v.ends end e }) })
+      → Related plan (record { words = set st.words (first_word plan station + k) n; homes = homes; views = set st.views id (stepped_at v end e) })
   steps_at st homes id v station k n end h e r here is same inside side kept =
       let some = first-some plan station in
       steps st (set st.words (first_word plan station + k) n) homes id v end h e r here is same
@@ -244,7 +244,7 @@ module _ {S : Type 0} (plan : EndTable) where
   pub steps_in : (st : State S HandView) (homes : List (mathlib.Core.Option.Option S)) (id : ℕ) (v : HandView) (station k n : ℕ) (d e : EndFacts) → (r : Related plan st)
       → get_elem? st.views id ≡ some v → at v.ends (drain station) ≡ Some d → IsPlanned d e → k < word_count (capacity_of plan station)
       → Kept (set st.words (first_word plan station + k) n) (first_word plan station) (r.truth (fill station)) e
-      → Related plan (record { words = set st.words (first_word plan station + k) n; homes = homes; views = set st.views id (record { ends = changed v.ends (drain station) e }) })
+      → Related plan (record { words = set st.words (first_word plan station + k) n; homes = homes; views = set st.views id (stepped_at v (drain station) e) })
   steps_in st homes id v station k n d e r here is same inside kept =
       steps_at st homes id v station k n (drain station) d e r here is same inside (omega arith)
       (subst (λ (y : EndFacts). Kept (set st.words (first_word plan station + k) n) (first_word plan station) y (swapped r.truth (drain station) e (drain station))) (sym (swapped_else r.truth (drain station) (fill station) e (λ z. omega arith)))
@@ -254,7 +254,7 @@ module _ {S : Type 0} (plan : EndTable) where
   pub steps_out : (st : State S HandView) (homes : List (mathlib.Core.Option.Option S)) (id : ℕ) (v : HandView) (station k n : ℕ) (f e : EndFacts) → (r : Related plan st)
       → get_elem? st.views id ≡ some v → at v.ends (fill station) ≡ Some f → IsPlanned f e → k < word_count (capacity_of plan station)
       → Kept (set st.words (first_word plan station + k) n) (first_word plan station) e (r.truth (drain station))
-      → Related plan (record { words = set st.words (first_word plan station + k) n; homes = homes; views = set st.views id (record { ends = changed v.ends (fill station) e }) })
+      → Related plan (record { words = set st.words (first_word plan station + k) n; homes = homes; views = set st.views id (stepped_at v (fill station) e) })
   steps_out st homes id v station k n f e r here is same inside kept =
       steps_at st homes id v station k n (fill station) f e r here is same inside (omega arith)
       (subst (λ (y : EndFacts). Kept (set st.words (first_word plan station + k) n) (first_word plan station) y (swapped r.truth (fill station) e (drain station))) (sym (swapped_here r.truth (fill station) e))

@@ -122,10 +122,10 @@ module _ {S : Type 0} (plan : EndTable) where
 
   -- ends that are owned go to a new hand
   pub splits : (id : ℕ) (v : HandView) (chosen : ℕ → Bool) → ((k : ℕ) → chosen k ≡ true → IsOwned v.ends k)
-      → Splits {S = S} (Related plan) id v (record { ends = left_from chosen 0 v.ends }) (record { ends = right_from chosen 0 v.ends })
+      → Splits {S = S} (Related plan) id v (record { ends = left_from chosen 0 v.ends; steps = v.steps }) (record { ends = right_from chosen 0 v.ends; steps = [] })
   splits id v chosen owned st r here =
-      let left : HandView = record { ends = left_from chosen 0 v.ends } in
-      let right : HandView = record { ends = right_from chosen 0 v.ends } in
+      let left : HandView = record { ends = left_from chosen 0 v.ends; steps = v.steps } in
+      let right : HandView = record { ends = right_from chosen 0 v.ends; steps = [] } in
       let truth : ℕ → EndFacts = λ k. let_go (chosen k) (r.truth k) in
       let counts : (k : ℕ) → sum_by (has k) (set st.views id left ++ right ∷ []) ≡ sum_by (has k) st.views =
       λ k. (
@@ -189,10 +189,10 @@ module _ {S : Type 0} (plan : EndTable) where
       (λ inside. let one = r.one k (lt_of_not-le inside) in omega arith)
 
   -- the ends of a second hand go to the first
-  pub joins : (id : ℕ) (v : HandView) (other : ℕ) (w : HandView) → Joins {S = S} (Related plan) id v other w (record { ends = merged_ends v.ends w.ends }) (record { ends = [] })
+  pub joins : (id : ℕ) (v : HandView) (other : ℕ) (w : HandView) → Joins {S = S} (Related plan) id v other w (record { ends = merged_ends v.ends w.ends; steps = v.steps }) (record { ends = []; steps = [] })
   joins id v other w st r here apart there_both =
-      let both : HandView = record { ends = merged_ends v.ends w.ends } in
-      let spent : HandView = record { ends = [] } in
+      let both : HandView = record { ends = merged_ends v.ends w.ends; steps = v.steps } in
+      let spent : HandView = record { ends = []; steps = [] } in
       let there : get_elem? st.views other ≡ some w = sym (set_else st.views id other both apart) ∙ there_both in
       let truth : ℕ → EndFacts = λ k. gone_or (at w.ends k) (r.truth k) in
       let few : (k : ℕ) → one_of (at v.ends k) + one_of (at w.ends k) ≤ 1 =

@@ -7,8 +7,8 @@ use Rattle.std.proofs.lemmas.Option.{slice_get_within}
 use Rattle.lid_station.specs.Boards.{fill, drain}
 use Rattle.lid_board.specs.Halves.{word_half, others, filling}
 use Rattle.lid_board.specs.Relation.{AreWithin, Kept, IsPlanned, Related, word_count, first_word, capacity_of, stream_of}
-use Rattle.lid_board.specs.Told.{LooksIn, LooksOut, TakesToken, Puts, ShowsNext}
-use Rattle.lid_board.specs.Views.{EndTable, at, IsEarly, changed, held_seen, missing, passing}
+use Rattle.lid_board.specs.Told.{HasStepped, LooksIn, LooksOut, TakesToken, Puts, ShowsNext}
+use Rattle.lid_board.specs.Views.{EndTable, at, IsEarly, changed, stepped_at, held_seen, missing, passing}
 use Rattle.lid_board.specs.declared.view.EndFacts.{EndFacts}
 use Rattle.lid_board.specs.declared.view.HandView.{HandView}
 use Rattle.lid_board.proofs.Frames.{end_within, is_early, are_within, steps_in, steps_out, view_within, apart}
@@ -87,25 +87,25 @@ module _ {S : Type 0} (plan : EndTable) (slots id place : ℕ) (me : Me S HandVi
 
   -- an end comes to e, in a board that is related to its plan then, and so the hand is told
   step_by : (st : State S HandView) (n end : ℕ) (e : EndFacts) → get_elem? st.views id ≡ some me.0
-      → Related plan (stepped st (first_word plan station + place / 2) n id me.1 (record { ends = changed me.0.ends end e }) keeps)
+      → Related plan (stepped st (first_word plan station + place / 2) n id me.1 (stepped_at me.0 end e) keeps)
       → (Told : EndTable → Type 0) → (IsEarly (changed me.0.ends end e) → AreWithin plan (changed me.0.ends end e) → Told (changed me.0.ends end e))
-      → After st n (λ w. (w.1 ≡ me.1) × Told w.0.ends)
+      → After st n (λ w. (w.1 ≡ me.1) × HasStepped end me.0.steps w.0 Told)
   step_by st n end e here next Told told =
       let view = set_here st.views id _ (view_within st.views id me.0 here) in
-      (record { ends = changed me.0.ends end e }, keeps, tt, next, (refl, told (is_early plan _ id _ next view) (are_within plan _ id _ next view)))
+      (stepped_at me.0 end e, keeps, tt, next, (refl, record { ends = told (is_early plan _ id _ next view) (are_within plan _ id _ next view); noted = refl }))
 
   -- the drained end comes to e
   step_in : (st : State S HandView) (r : Related plan st) (n : ℕ) (d e : EndFacts) → get_elem? st.views id ≡ some me.0 → at me.0.ends (drain station) ≡ Some d → IsPlanned d e → place / 2 < word_count (capacity_of plan station)
       → Kept (set st.words (first_word plan station + place / 2) n) (first_word plan station) (r.truth (fill station)) e
       → (Told : EndTable → Type 0) → (IsEarly (changed me.0.ends (drain station) e) → AreWithin plan (changed me.0.ends (drain station) e) → Told (changed me.0.ends (drain station) e))
-      → After st n (λ w. (w.1 ≡ me.1) × Told w.0.ends)
+      → After st n (λ w. (w.1 ≡ me.1) × HasStepped (drain station) me.0.steps w.0 Told)
   step_in st r n d e here is planned inside kept = step_by st n (drain station) e here (steps_in plan st st.homes id me.0 station (place / 2) n d e r here is planned inside kept)
 
   -- the filled end comes to e
   step_out : (st : State S HandView) (r : Related plan st) (n : ℕ) (f e : EndFacts) → get_elem? st.views id ≡ some me.0 → at me.0.ends (fill station) ≡ Some f → IsPlanned f e → place / 2 < word_count (capacity_of plan station)
       → Kept (set st.words (first_word plan station + place / 2) n) (first_word plan station) e (r.truth (drain station))
       → (Told : EndTable → Type 0) → (IsEarly (changed me.0.ends (fill station) e) → AreWithin plan (changed me.0.ends (fill station) e) → Told (changed me.0.ends (fill station) e))
-      → After st n (λ w. (w.1 ≡ me.1) × Told w.0.ends)
+      → After st n (λ w. (w.1 ≡ me.1) × HasStepped (fill station) me.0.steps w.0 Told)
   step_out st r n f e here is planned inside kept = step_by st n (fill station) e here (steps_out plan st st.homes id me.0 station (place / 2) n f e r here is planned inside kept)
 
   -- what is known at an end is what the board has there
@@ -113,7 +113,7 @@ module _ {S : Type 0} (plan : EndTable) (slots id place : ℕ) (me : Me S HandVi
   own_passed st r end here g at_g = ap (λ (y : EndFacts). y.passed) (r.agree id me.0 end g here at_g)
 
   pub looks_in : (d : EndFacts) → at me.0.ends (drain station) ≡ Some d → place ≡ d.passed % capacity_of plan station
-      → Allows (Related plan) slots id me (first_word plan station + place / 2) (λ n. n) (λ r w. (w.1 ≡ me.1) × LooksIn plan me.0.ends station place d r w.0.ends)
+      → Allows (Related plan) slots id me (first_word plan station + place / 2) (λ n. n) (λ r w. (w.1 ≡ me.1) × HasStepped (drain station) me.0.steps w.0 (LooksIn plan me.0.ends station place d r))
   looks_in d is place_is st r homes here fits =
       let f = r.truth (fill station) in
       let k = at_drain d is place_is st r here in
@@ -147,7 +147,7 @@ module _ {S : Type 0} (plan : EndTable) (slots id place : ℕ) (me : Me S HandVi
       }))
 
   pub looks_out : (f : EndFacts) → at me.0.ends (fill station) ≡ Some f → place ≡ f.passed % capacity_of plan station
-      → Allows (Related plan) slots id me (first_word plan station + place / 2) (λ n. n) (λ r w. (w.1 ≡ me.1) × LooksOut plan me.0.ends station place f r w.0.ends)
+      → Allows (Related plan) slots id me (first_word plan station + place / 2) (λ n. n) (λ r w. (w.1 ≡ me.1) × HasStepped (fill station) me.0.steps w.0 (LooksOut plan me.0.ends station place f r))
   looks_out f is place_is st r homes here fits =
       let d = r.truth (drain station) in
       let k = at_fill f is place_is st r here in
@@ -180,7 +180,7 @@ module _ {S : Type 0} (plan : EndTable) (slots id place : ℕ) (me : Me S HandVi
       }))
 
   pub takes : (d : EndFacts) → at me.0.ends (drain station) ≡ Some d → place ≡ d.passed % capacity_of plan station → d.mark ≡ true
-      → Allows (Related plan) slots id me (first_word plan station + place / 2) (λ n. bit_and n (others place)) (λ r w. (w.1 ≡ me.1) × TakesToken plan me.0.ends station place d r w.0.ends)
+      → Allows (Related plan) slots id me (first_word plan station + place / 2) (λ n. bit_and n (others place)) (λ r w. (w.1 ≡ me.1) × HasStepped (drain station) me.0.steps w.0 (TakesToken plan me.0.ends station place d r))
   takes d is place_is mark st r homes here fits =
       let k = at_drain d is place_is st r here in
       let kept = k.kept in
@@ -200,7 +200,7 @@ module _ {S : Type 0} (plan : EndTable) (slots id place : ℕ) (me : Me S HandVi
       })
 
   pub puts : (f : EndFacts) (token : ℕ) → at me.0.ends (fill station) ≡ Some f → place ≡ f.passed % capacity_of plan station → f.mark ≡ true → slice_get (stream_of plan station) f.passed ≡ Some token
-      → Allows (Related plan) slots id me (first_word plan station + place / 2) (λ n. bit_or n (filling place token)) (λ r w. (w.1 ≡ me.1) × Puts plan me.0.ends station f w.0.ends)
+      → Allows (Related plan) slots id me (first_word plan station + place / 2) (λ n. bit_or n (filling place token)) (λ r w. (w.1 ≡ me.1) × HasStepped (fill station) me.0.steps w.0 (Puts plan me.0.ends station f))
   puts f token is place_is mark next_is st r homes here fits =
       let k = at_fill f is place_is st r here in
       let some : f.passed < (r.truth (drain station)).passed + f.cap = k.kept.room_seen mark in
@@ -214,25 +214,25 @@ module _ {S : Type 0} (plan : EndTable) (slots id place : ℕ) (me : Me S HandVi
 
 -- the same steps at a word that is known to be the one of the place
 module _ {S : Type 0} (plan : EndTable) (slots id place : ℕ) (me : Me S HandView) (station word : ℕ) (same : word ≡ first_word plan station + place / 2) where
-  at_word : (step : ℕ → ℕ) (Told : ℕ → EndTable → Type 0) → Allows (Related plan) slots id me (first_word plan station + place / 2) step (λ r w. (w.1 ≡ me.1) × Told r w.0.ends) → Allows (Related plan) slots id me word step (λ r w. (w.1 ≡ me.1) × Told r w.0.ends)
-  at_word step Told = subst (λ (i : ℕ). Allows (Related plan) slots id me i step (λ r w. (w.1 ≡ me.1) × Told r w.0.ends)) (sym same)
+  at_word : (end : ℕ) (step : ℕ → ℕ) (Told : ℕ → EndTable → Type 0) → Allows (Related plan) slots id me (first_word plan station + place / 2) step (λ r w. (w.1 ≡ me.1) × HasStepped end me.0.steps w.0 (Told r)) → Allows (Related plan) slots id me word step (λ r w. (w.1 ≡ me.1) × HasStepped end me.0.steps w.0 (Told r))
+  at_word end step Told = subst (λ (i : ℕ). Allows (Related plan) slots id me i step (λ r w. (w.1 ≡ me.1) × HasStepped end me.0.steps w.0 (Told r))) (sym same)
 
   pub looks_in_at : (d : EndFacts) → at me.0.ends (drain station) ≡ Some d → place ≡ d.passed % capacity_of plan station
-      → Allows (Related plan) slots id me word (λ n. n) (λ r w. (w.1 ≡ me.1) × LooksIn plan me.0.ends station place d r w.0.ends)
-  looks_in_at d is place_is = at_word (λ n. n) (LooksIn plan me.0.ends station place d) (looks_in plan slots id place me station d is place_is)
+      → Allows (Related plan) slots id me word (λ n. n) (λ r w. (w.1 ≡ me.1) × HasStepped (drain station) me.0.steps w.0 (LooksIn plan me.0.ends station place d r))
+  looks_in_at d is place_is = at_word (drain station) (λ n. n) (LooksIn plan me.0.ends station place d) (looks_in plan slots id place me station d is place_is)
 
   pub looks_out_at : (f : EndFacts) → at me.0.ends (fill station) ≡ Some f → place ≡ f.passed % capacity_of plan station
-      → Allows (Related plan) slots id me word (λ n. n) (λ r w. (w.1 ≡ me.1) × LooksOut plan me.0.ends station place f r w.0.ends)
-  looks_out_at f is place_is = at_word (λ n. n) (LooksOut plan me.0.ends station place f) (looks_out plan slots id place me station f is place_is)
+      → Allows (Related plan) slots id me word (λ n. n) (λ r w. (w.1 ≡ me.1) × HasStepped (fill station) me.0.steps w.0 (LooksOut plan me.0.ends station place f r))
+  looks_out_at f is place_is = at_word (fill station) (λ n. n) (LooksOut plan me.0.ends station place f) (looks_out plan slots id place me station f is place_is)
 
   pub takes_at : (d : EndFacts) (bits : ℕ) → at me.0.ends (drain station) ≡ Some d → place ≡ d.passed % capacity_of plan station → d.mark ≡ true → bits ≡ others place
-      → Allows (Related plan) slots id me word (λ n. bit_and n bits) (λ r w. (w.1 ≡ me.1) × TakesToken plan me.0.ends station place d r w.0.ends)
+      → Allows (Related plan) slots id me word (λ n. bit_and n bits) (λ r w. (w.1 ≡ me.1) × HasStepped (drain station) me.0.steps w.0 (TakesToken plan me.0.ends station place d r))
   takes_at d bits is place_is mark bits_are =
-      subst (λ (b : ℕ). Allows (Related plan) slots id me word (λ n. bit_and n b) (λ r w. (w.1 ≡ me.1) × TakesToken plan me.0.ends station place d r w.0.ends)) (sym bits_are)
-      (at_word (λ n. bit_and n (others place)) (TakesToken plan me.0.ends station place d) (takes plan slots id place me station d is place_is mark))
+      subst (λ (b : ℕ). Allows (Related plan) slots id me word (λ n. bit_and n b) (λ r w. (w.1 ≡ me.1) × HasStepped (drain station) me.0.steps w.0 (TakesToken plan me.0.ends station place d r))) (sym bits_are)
+      (at_word (drain station) (λ n. bit_and n (others place)) (TakesToken plan me.0.ends station place d) (takes plan slots id place me station d is place_is mark))
 
   pub puts_at : (f : EndFacts) (token bits : ℕ) → at me.0.ends (fill station) ≡ Some f → place ≡ f.passed % capacity_of plan station → f.mark ≡ true → slice_get (stream_of plan station) f.passed ≡ Some token → bits ≡ filling place token
-      → Allows (Related plan) slots id me word (λ n. bit_or n bits) (λ r w. (w.1 ≡ me.1) × Puts plan me.0.ends station f w.0.ends)
+      → Allows (Related plan) slots id me word (λ n. bit_or n bits) (λ r w. (w.1 ≡ me.1) × HasStepped (fill station) me.0.steps w.0 (Puts plan me.0.ends station f))
   puts_at f token bits is place_is mark next_is bits_are =
-      subst (λ (b : ℕ). Allows (Related plan) slots id me word (λ n. bit_or n b) (λ r w. (w.1 ≡ me.1) × Puts plan me.0.ends station f w.0.ends)) (sym bits_are)
-      (at_word (λ n. bit_or n (filling place token)) (λ _. Puts plan me.0.ends station f) (puts plan slots id place me station f token is place_is mark next_is))
+      subst (λ (b : ℕ). Allows (Related plan) slots id me word (λ n. bit_or n b) (λ r w. (w.1 ≡ me.1) × HasStepped (fill station) me.0.steps w.0 (Puts plan me.0.ends station f))) (sym bits_are)
+      (at_word (fill station) (λ n. bit_or n (filling place token)) (λ _. Puts plan me.0.ends station f) (puts plan slots id place me station f token is place_is mark next_is))

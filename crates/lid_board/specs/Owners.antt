@@ -13,6 +13,10 @@ use Rattle.lid_board.specs.declared.view.EndFacts.{EndFacts}
 abbrev pub ends_of : Hand → EndTable
 ends_of hand = hand.seat.me.0.ends
 
+-- the ends at which a hand made its steps, the latest first
+abbrev pub steps_of : Hand → List ℕ
+steps_of hand = hand.seat.me.0.steps
+
 -- a seat of the first table is one of the second, which has this word
 abbrev pub IsAtWord : TableId → TableId → ℕ → Type 0
 IsAtWord mine table word = (mine ≡ table) × (word < table.words)

@@ -1,11 +1,17 @@
 -- What a step tells the hand that makes it.
-use Rattle.std.specs.Prelude.{◌≡◌, ℕ, ◌+◌, ◌-◌, ◌^◌, ◌<◌, ◌≤◌, true, take, Some, slice_get}
+use Rattle.std.specs.Prelude.{◌≡◌, ℕ, ◌+◌, ◌-◌, ◌^◌, ◌<◌, ◌≤◌, true, List, ◌∷◌, take, Some, slice_get}
 use Rattle.lid_station.specs.Boards.{fill, drain, HasFullBits}
 use Rattle.lid_station.specs.Words.{word, word_number}
 use Rattle.lid_board.specs.Halves.{word_half}
 use Rattle.lid_board.specs.Relation.{AreWithin, stream_of, capacity_of}
 use Rattle.lid_board.specs.Views.{EndTable, at, IsEarly, held_seen, missing, passing, changed}
 use Rattle.lid_board.specs.declared.view.EndFacts.{EndFacts}
+use Rattle.lid_board.specs.declared.view.HandView.{HandView}
+
+-- a hand that had made these steps made one more, at an end, and this is so of what it knows then at its ends
+pub record HasStepped (end : ℕ) (steps : List ℕ) (new : HandView) (Told : EndTable → Type 0) : Type 0 where
+  pub ends : Told new.ends
+  pub noted : new.steps ≡ end ∷ steps
 
 -- an end is of the station of the plan, the hand's ends stay early, and within their streams
 pub record IsOfPlan (plan : EndTable) (station : ℕ) (h : EndFacts) (new : EndTable) : Type 0 where

@@ -1,5 +1,5 @@
 -- What is known at the ends of stations, by the numbers of the ends.
-use Rattle.std.specs.Prelude.{◌≡◌, ℕ, ◌+◌, ◌%◌, ◌<◌, ◌==◌, cond, true, false, List, [], Option, Some, None, option_map, slice_index_or, slice_set}
+use Rattle.std.specs.Prelude.{◌≡◌, ℕ, ◌+◌, ◌%◌, ◌<◌, ◌==◌, cond, true, false, List, [], ◌∷◌, Option, Some, None, option_map, slice_index_or, slice_set}
 use Rattle.lid_station.specs.Boards.{Facts}
 use Rattle.lid_board.specs.declared.view.EndFacts.{EndFacts}
 use Rattle.lid_board.specs.declared.view.HandView.{HandView}
@@ -65,3 +65,7 @@ passing h = record h { passed = h.passed + 1; mark = false }
 -- what is known at one end has changed
 abbrev pub changed : EndTable → ℕ → EndFacts → EndTable
 changed ends end h = slice_set ends end (Some h)
+
+-- what a hand knows once it made a step at an end, of which this is known then
+abbrev pub stepped_at : HandView → ℕ → EndFacts → HandView
+stepped_at v end h = record { ends = changed v.ends end h; steps = end ∷ v.steps }

@@ -1,6 +1,7 @@
 //! A hand at its board.
 
-ghost use Rattle.lid_board.specs.Owners.{IsOf, ends_of, start_ends, identity_of};
+ghost use Rattle.std.specs.Prelude.{Some};
+ghost use Rattle.lid_board.specs.Owners.{IsOf, ends_of, steps_of, start_ends, identity_of};
 ghost use Rattle.lid_board.specs.Standing.{AreStreamsOf, Admits, attended_next, attended_within};
 ghost use Rattle.lid_board.specs.Views.{facts_at};
 
@@ -11,7 +12,7 @@ use lid_station::{InLook, OutLook, Stations};
 /// A hand at the board that it is of: stations of which the hand's ends are served.
 ///
 /// It stands for the streams of the board alone, and a station admits the next token of its stream.
-/// Each call is one step on one word, and misses are counted.
+/// Each call is one step on one word; misses are counted, and steps are noted.
 #[derive(Drop)]
 pub struct Attended<'b> {
     /// The board.
@@ -27,6 +28,8 @@ impl<'b> Stations for Attended<'b> {
     ghost stands = { λ a. AreStreamsOf (start_ends a.board.now) };
 
     ghost admits = { λ a. Admits (start_ends a.board.now) (ends_of a.hand.now) };
+
+    ghost steps = { λ a. Some (steps_of a.hand.now) };
 
     ghost identity = { λ a. identity_of a.hand.ghost_name a.hand.now a.board.now };
 

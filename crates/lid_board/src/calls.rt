@@ -1,8 +1,8 @@
 //! The four calls of a hand on a board.
 
-ghost use Rattle.std.specs.Prelude.{◌≡◌, ℕ, ◌/◌, ◌+◌, ◌-◌, ◌^◌, ◌<◌, true, Some, slice_get, ◌↔◌};
+ghost use Rattle.std.specs.Prelude.{◌≡◌, ℕ, ◌/◌, ◌+◌, ◌-◌, ◌^◌, ◌<◌, ◌∷◌, true, Some, slice_get, ◌↔◌};
 ghost use Rattle.lid_station.specs.Boards.{Facts, fill, drain, advanced, Changes, looked_in, looked_out, IsToken, IsVoid, IsRoom, IsStop, FindsIn, FindsOut, HasSmallToken, TellsNothing, TellsFull, HasFilled, HasDrained};
-ghost use Rattle.lid_board.specs.Owners.{IsOf, IsOwned, HasEnd, IsSpot, ends_of, start_ends};
+ghost use Rattle.lid_board.specs.Owners.{IsOf, IsOwned, HasEnd, IsSpot, ends_of, steps_of, start_ends};
 ghost use Rattle.lid_board.specs.Relation.{stream_of};
 ghost use Rattle.lid_board.specs.Views.{facts, facts_at, held};
 
@@ -47,6 +47,7 @@ impl Board {
         requires has_end { HasEnd hand.old self.now (drain station) }
         ensures of { IsOf hand.new self.now }
         ensures changed { Changes (facts_at (ends_of hand.old)) (drain station) (looked_in result) (facts_at (ends_of hand.new)) }
+        ensures steps { steps_of hand.new ≡ drain station ∷ steps_of hand.old }
         ensures found { FindsIn result (facts (held (ends_of hand.old) (drain station))) (stream_of (start_ends self.now) station) }
         ensures small { HasSmallToken result }
         ensures nothing { TellsNothing result }
@@ -72,6 +73,7 @@ impl Board {
         requires has_end { HasEnd hand.old self.now (fill station) }
         ensures of { IsOf hand.new self.now }
         ensures changed { Changes (facts_at (ends_of hand.old)) (fill station) (looked_out result) (facts_at (ends_of hand.new)) }
+        ensures steps { steps_of hand.new ≡ fill station ∷ steps_of hand.old }
         ensures found { FindsOut result (facts (held (ends_of hand.old) (fill station))) (stream_of (start_ends self.now) station) }
         ensures filled { HasFilled result (facts (held (ends_of hand.old) (fill station))) }
         ensures full { TellsFull result (facts (held (ends_of hand.old) (fill station))) }
@@ -95,6 +97,7 @@ impl Board {
         requires seen { (held (ends_of hand.old) (drain station)).mark ≡ true }
         ensures of { IsOf hand.new self.now }
         ensures changed { Changes (facts_at (ends_of hand.old)) (drain station) advanced (facts_at (ends_of hand.new)) }
+        ensures steps { steps_of hand.new ≡ drain station ∷ steps_of hand.old }
         ensures token { slice_get (stream_of (start_ends self.now) station) (held (ends_of hand.old) (drain station)).passed ≡ Some result }
         ensures small { result < 2 ^ 31 }
     {
@@ -115,6 +118,7 @@ impl Board {
         requires next { slice_get (stream_of (start_ends self.now) station) (held (ends_of hand.old) (fill station)).passed ≡ Some token }
         ensures of { IsOf hand.new self.now }
         ensures changed { Changes (facts_at (ends_of hand.old)) (fill station) advanced (facts_at (ends_of hand.new)) }
+        ensures steps { steps_of hand.new ≡ fill station ∷ steps_of hand.old }
     {
         let end = 2 * station as usize;
         let spot = self.spot(hand, station, end);

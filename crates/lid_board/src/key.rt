@@ -19,7 +19,7 @@ struct Anything;
 impl TableRule<(), HandView, ()> for Anything {
     ghost holds = { λ _ _. Unit {0} };
 
-    ghost first = { λ _. record { ends = [] } };
+    ghost first = { λ _. record { ends = []; steps = [] } };
 }
 
 /// What is known at the start.
@@ -28,7 +28,7 @@ trait Sighting {
 }
 
 impl Sighting for Brand {
-    ghost sight = { record { ends = [] } };
+    ghost sight = { record { ends = []; steps = [] } };
 }
 
 struct Sees<J> {
@@ -63,7 +63,8 @@ pub(crate) fn key_of<C: Course>(
     caps: &[u32],
     course: &C,
 ) -> Result<Seat<(), HandView>, AllocError>
-    ensures { IfOk result (λ seat. seat.me.0.ends ≡ first_ends firsts.now caps.now (C.streams course.now)) }
+    ensures ends { IfOk result (λ seat. seat.me.0.ends ≡ first_ends firsts.now caps.now (C.streams course.now)) }
+    ensures steps { IfOk result (λ seat. seat.me.0.steps ≡ []) }
 {
     key_as::<Brand, C>(alloc, firsts, caps, course)
 }

@@ -1,7 +1,7 @@
 //! How ends go from hand to hand.
 
-ghost use Rattle.std.specs.Prelude.{◌≡◌, ℕ, ◌+◌, ◌*◌, ◌^◌, ◌<◌, ◌≤◌, cond, length, None, Option, option_map, slice_index_or, IfOk, OnOk, OnErr, MatchResult, true};
-ghost use Rattle.lid_board.specs.Owners.{IsOf, IsOwned, ends_of, start_ends};
+ghost use Rattle.std.specs.Prelude.{◌≡◌, ℕ, ◌+◌, ◌*◌, ◌^◌, ◌<◌, ◌≤◌, cond, length, None, Option, option_map, slice_index_or, IfOk, OnOk, OnErr, MatchResult, true, []};
+ghost use Rattle.lid_board.specs.Owners.{IsOf, IsOwned, ends_of, steps_of, start_ends};
 ghost use Rattle.lid_board.specs.Parting.{end_number, is_chosen, or_else, unseen};
 ghost use Rattle.lid_board.specs.Views.{at};
 ghost use Rattle.lid_board.specs.declared.view.EndFacts.{EndFacts};
@@ -77,7 +77,8 @@ impl Hand {
 impl Board {
     /// Gives these ends of a hand to a new one, by a load of word 0. They keep their streams,
     /// start counts, numbers and misses, and what was seen there is seen no more. The other ends of
-    /// the hand stay as they are. The hand is one of this board, and owns the ends.
+    /// the hand stay as they are. The new hand has made no step. The hand is one of this board, and
+    /// owns the ends.
     ///
     /// # Errors
     /// Memory is wanting. Nothing has changed then.
@@ -88,6 +89,8 @@ impl Board {
         ensures new_of { IfOk result (λ new. IsOf new self.now) }
         ensures kept { OnOk result ((end : ℕ) → at (ends_of hand.new) end ≡ cond (is_chosen ends.now end) None (at (ends_of hand.old) end)) }
         ensures given { IfOk result (λ new. (end : ℕ) → at (ends_of new) end ≡ cond (is_chosen ends.now end) (option_map unseen (at (ends_of hand.old) end)) None) }
+        ensures steps { OnOk result (steps_of hand.new ≡ steps_of hand.old) }
+        ensures new_steps { IfOk result (λ new. steps_of new ≡ []) }
         ensures err { OnErr result (hand.new ≡ hand.old) }
     {
         let mut numbers = vec![in self.alloc; None; hand.ends.len()]?;
@@ -101,12 +104,13 @@ impl Board {
 
     /// Gives all ends of another hand to this one, by a load of word 0. They keep their streams,
     /// start counts, numbers and misses, and what was seen there is seen no more. The other ends of
-    /// the hand stay as they are. Both hands are of this board.
+    /// the hand stay as they are, and so do the steps that it noted. Both hands are of this board.
     pub fn join(&self, hand: &mut Hand, other: Hand)
         requires of { IsOf hand.old self.now }
         requires other { IsOf other self.now }
         ensures of { IsOf hand.new self.now }
         ensures joined { (end : ℕ) → at (ends_of hand.new) end ≡ or_else (at (ends_of hand.old) end) (option_map unseen (at (ends_of other) end)) }
+        ensures steps { steps_of hand.new ≡ steps_of hand.old }
     {
         let Hand { seat, ends } = other;
         join_both(&self.table.shared, &mut hand.seat, seat);

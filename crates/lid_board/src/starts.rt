@@ -3,7 +3,7 @@
 ghost use Rattle.std.specs.Prelude.{◌≡◌, ℕ, ◌+◌, ◌*◌, ◌^◌, ◌<◌, ◌≤◌, List, length, Some, slice_index_or, IfSome, IfOk, OnOk, []};
 ghost use Rattle.std.specs.List.{All};
 ghost use Rattle.lid_station.specs.Boards.{fill, drain};
-ghost use Rattle.lid_board.specs.Owners.{IsOf, ends_of, start_ends};
+ghost use Rattle.lid_board.specs.Owners.{IsOf, ends_of, steps_of, start_ends};
 ghost use Rattle.lid_board.specs.Relation.{word_count};
 ghost use Rattle.lid_board.specs.Standing.{AreStreamsOf};
 ghost use Rattle.lid_board.specs.Starts.{first_ends, start_fill, start_drain, start_word, AreStreamsFor, AreLaid, AreFirsts, AreNumbers, CanStart, HasLaidWords};
@@ -130,6 +130,7 @@ impl Board {
         ensures plan { IfOk result (λ r. start_ends r.0 ≡ first_ends firsts.now caps.now (C.streams course.now)) }
         ensures many { IfOk result (λ r. length (start_ends r.0) ≡ 2 * length firsts.now) }
         ensures all { IfOk result (λ r. ends_of r.1 ≡ start_ends r.0) }
+        ensures steps { IfOk result (λ r. steps_of r.1 ≡ []) }
         ensures fills { IfOk result (λ r. (station : ℕ) → station < length firsts.now
             → at (ends_of r.1) (fill station) ≡ Some (start_fill firsts.now caps.now (C.streams course.now) station)) }
         ensures drains { IfOk result (λ r. (station : ℕ) → station < length firsts.now

@@ -109,9 +109,9 @@ struct Parts<J> {
 }
 
 impl<J: Choosing> Split<HandView> for Parts<J> {
-    ghost left = { λ v. record { ends = left_from J.chosen 0 v.ends } };
+    ghost left = { λ v. record { ends = left_from J.chosen 0 v.ends; steps = v.steps } };
 
-    ghost right = { λ v. record { ends = right_from J.chosen 0 v.ends } };
+    ghost right = { λ v. record { ends = right_from J.chosen 0 v.ends; steps = [] } };
 }
 
 /// Cuts what a seat knows in two. The ends are for contracts alone.
@@ -125,6 +125,7 @@ pub(crate) fn split_as<J: Choosing>(
     ensures seat { (seat.new.table_id ≡ seat.old.table_id) × (seat.new.me.1 ≡ seat.old.me.1) × (result.table_id ≡ seat.old.table_id) × (result.me.1 ≡ []) }
     ensures left { seat.new.me.0.ends ≡ left_from J.chosen 0 seat.old.me.0.ends }
     ensures right { result.me.0.ends ≡ right_from J.chosen 0 seat.old.me.0.ends }
+    ensures steps { (seat.new.me.0.steps ≡ seat.old.me.0.steps) × (result.me.0.steps ≡ []) }
     ensures early { IsEarly seat.old.me.0.ends → IsEarly seat.new.me.0.ends × IsEarly result.me.0.ends }
 {
     cells.split_seat::<Parts<J>>(seat)
@@ -133,9 +134,9 @@ pub(crate) fn split_as<J: Choosing>(
 struct Both;
 
 impl Join<HandView> for Both {
-    ghost both = { λ v w. record { ends = merged_ends v.ends w.ends } };
+    ghost both = { λ v w. record { ends = merged_ends v.ends w.ends; steps = v.steps } };
 
-    ghost spent = { record { ends = [] } };
+    ghost spent = { record { ends = []; steps = [] } };
 }
 
 /// Makes what two seats know one.
@@ -145,6 +146,7 @@ pub(crate) fn join_both(cells: &Cells, seat: &mut Seat<(), HandView>, other: Sea
     requires no_slot { other.me.1 ≡ [] }
     ensures seat { (seat.new.table_id ≡ seat.old.table_id) × (seat.new.me.1 ≡ seat.old.me.1) }
     ensures both { seat.new.me.0.ends ≡ merged_ends seat.old.me.0.ends other.me.0.ends }
+    ensures steps { seat.new.me.0.steps ≡ seat.old.me.0.steps }
     ensures early { IsEarly seat.old.me.0.ends → IsEarly other.me.0.ends → IsEarly seat.new.me.0.ends }
 {
     cells.join_seat::<Both>(seat, other);

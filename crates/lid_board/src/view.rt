@@ -19,7 +19,9 @@ pub struct EndFacts {
     pub misses: u64,
 }
 
-/// What is known at the ends that one hand has, by their numbers: nothing where another has it.
+/// What one hand knows: what is known at its ends, by their numbers, nothing where another has it; and at which ends it
+/// made its steps, the latest first.
 pub struct HandView {
     pub ends: LinkedList<Option<EndFacts>>,
+    pub steps: LinkedList<u64>,
 }

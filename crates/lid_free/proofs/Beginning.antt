@@ -29,7 +29,8 @@ use Rattle.lid_walk.specs.Setups.{IsSetupOf}
 use Rattle.lid_walk.specs.Firsts.{first_token, first_tokens}
 use Rattle.lid_walk.proofs.Opening.{places_many, first_at, firsts_many, counted, begins, rooms}
 use Rattle.lid_free.specs.Courses.{streams_of, are_streams}
-use Rattle.lid_free.specs.Settings.{IsEndStart, IsStarted, IsPlain, AreBoards}
+use Rattle.lid_free.specs.Settings.{IsPlain, AreBoards}
+use Rattle.lid_free.specs.Workers.{IsEndStart, IsStarted}
 use Rattle.lid_free.specs.declared.setting.Boards.{Boards}
 use Rattle.lid_base.proofs.Each.{each_length, each_at}
 

@@ -25,9 +25,9 @@ use Rattle.lid_free_crew.specs.Posts.{known}
 use Rattle.lid_free_crew.proofs.Misses.{held_there}
 use Rattle.lid_free_crew.specs.Shares.{share, holder}
 use Rattle.lid_free_crew.specs.Crews.{HaveWorked, HasJoined, AreShared}
-use Rattle.lid_free.specs.Settings.{IsStarted, IsPlain, IsCrew}
+use Rattle.lid_free.specs.Settings.{IsPlain}
+use Rattle.lid_free.specs.Workers.{IsStarted, IsCrew, fired_of}
 use Rattle.lid_free.specs.FreeRuns.{state_of_counts}
-use Rattle.lid_free.specs.Gathering.{fired_of}
 use Rattle.lid_free.proofs.Parallel.{HasPair, pair_of, holder_low, mod_low, works_after, kept}
 use Rattle.lid_free.proofs.Ready.{drain_holder, fill_holder}
 use Rattle.lid_base.proofs.Places.{item_at}

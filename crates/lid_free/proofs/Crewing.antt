@@ -21,7 +21,7 @@ use Rattle.lid_walk.specs.Actors.{AreActors}
 use Rattle.lid_free_crew.specs.declared.worker.Worker.{Worker}
 use Rattle.lid_free_crew.specs.Shares.{share}
 use Rattle.lid_free_crew.specs.Crews.{HasShare, AreUnseen, AreHired, AreDealt}
-use Rattle.lid_free.specs.Settings.{IsStarted, AreOwners, IsCrew}
+use Rattle.lid_free.specs.Workers.{IsStarted, AreOwners, IsCrew}
 use Rattle.lid_base.proofs.Places.{item_at}
 
 module _ (m : Setup) (board : Board) (started : IsStarted m board) where

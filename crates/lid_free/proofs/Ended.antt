@@ -26,7 +26,8 @@ use Rattle.lid_free_crew.specs.Tallies.{AddsUp, sum_below}
 use Rattle.lid_free_crew.specs.Nothing.{no_turns}
 use Rattle.lid_free_crew.specs.Shares.{numbers_of}
 use Rattle.lid_free.specs.FreeRuns.{IsShareTally, FitStations, AreWithinRounds, FirstTurnsFire, AreSweeps, Finishes, IsNothing, IsFreeEnd, rounds_made, state_of_counts}
-use Rattle.lid_free.specs.Gathering.{fired_of, AreGathered}
+use Rattle.lid_free.specs.Gathering.{AreGathered}
+use Rattle.lid_free.specs.Workers.{fired_of, CountsRun}
 use Rattle.lid_free.specs.Endings.{IsEnding}
 use Rattle.lid_free.specs.Sweeps.{HasSettled}
 use Rattle.lid_free.specs.declared.ending.Sweeps.{Sweeps}
@@ -154,6 +155,7 @@ module _ (m : Setup) (workers made : ℕ) (pairs : List Pair) (actors : List Act
           subst (λ (l : List Tally). Finishes (plan m) l e.fired e.finish e.finish_fired) (sym t_is)
           (subst (λ (l : List ℕ). Finishes (plan m) tallies l e.finish e.finish_fired) (sym f_is)
           (subst (λ (n : ℕ). Finishes (plan m) tallies fired n e.finish_fired) (sym c_is) (subst (Finishes (plan m) tallies fired s.count) (sym n_is) (finishes some))));
+      run = subst (λ (l : List Tally). CountsRun m workers made l e.fired) (sym t_is) (subst (CountsRun m workers made tallies) (sym f_is) g.run);
     }
 
 -- without rows nothing is done
@@ -224,4 +226,5 @@ module _ (m : Setup) (workers rounds : ℕ) (e : FreeEnd) (rules : IsSetup m) (i
       finishes = is.finishes some;
       nothing = nothing;
     };
+    run = is.run;
   }

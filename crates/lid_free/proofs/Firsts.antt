@@ -27,9 +27,8 @@ use Rattle.lid_free_crew.proofs.Sums.{sum_none}
 use Rattle.lid_free_crew.proofs.Misses.{held_there}
 use Rattle.lid_free_crew.specs.Shares.{share}
 use Rattle.lid_free_crew.specs.Crews.{HaveWorked}
-use Rattle.lid_free.specs.Settings.{IsCrew}
+use Rattle.lid_free.specs.Workers.{IsCrew, fired_of}
 use Rattle.lid_free.specs.FreeRuns.{FirstTurnsFire, state_of_counts}
-use Rattle.lid_free.specs.Gathering.{fired_of}
 use Rattle.lid_free.proofs.Parallel.{fired_read, HasPair, pair_of, mod_low, run_of, works_after, kept}
 use Rattle.lid_free.proofs.Ready.{drain_holder}
 use Rattle.lid_base.proofs.Places.{item_at}

@@ -22,12 +22,12 @@ use Rattle.lid_walk.specs.Walks.{IsBoard}
 use Rattle.lid_free_crew.specs.declared.worker.Worker.{Worker}
 use Rattle.lid_free_crew.specs.Shares.{is_own, share, numbers_of, holder}
 use Rattle.lid_free_crew.specs.Crews.{IsSameBut, AreBack, AreShared, HasJoined, HaveWorked}
-use Rattle.lid_free.specs.Settings.{IsCrew}
+use Rattle.lid_free.specs.Workers.{IsCrew, fired_of}
 use Rattle.lid_free.specs.FreeRuns.{IsShareTally, state_of_counts}
-use Rattle.lid_free.specs.Gathering.{fired_of, HasWorkedOut, AreGathered}
+use Rattle.lid_free.specs.Gathering.{HasWorkedOut, AreGathered}
 use Rattle.lid_free.specs.declared.setting.Boards.{Boards}
 use Rattle.lid_free.specs.declared.setting.Crew.{Crew}
-use Rattle.lid_free.proofs.Shares.{picked_length}
+use Rattle.lid_free.proofs.Shares.{picked_length, picked_map}
 use Rattle.lid_free.proofs.Parallel.{HasPair, pair_of, fired_read, actors_after, tally_after}
 use Rattle.lid_free.proofs.Closing.{shared, all_kept, board_closed}
 use Rattle.lid_free.proofs.Resting.{sound_at_rest}
@@ -161,4 +161,15 @@ module _ (m : Setup) (workers made : ℕ) (b : Boards) (crew : Crew) (h : HasWor
           few = few_fired m b.board workers h.set.owners h.set.dealt h.old.workers.items c news made actors h.worked long shares_are;
           first = first_turns m b.board workers h.set.owners h.set.dealt h.old.workers.items news made actors c h.worked long shares_are;
           alone = λ one. machines m b.board workers h.set.owners h.set.dealt h.old.workers.items news made actors c h.worked long shares_are one tallies noted_news;
+          run = record {
+            board = b.board;
+            owners = h.set.owners;
+            dealt = h.set.dealt;
+            first = h.old.workers.items;
+            last = news;
+            set = c;
+            worked = h.worked;
+            tallies_are = noted_news;
+            fired_are = λ i w at_w. ap fired_of (sym (shares_are i w at_w)) ∙ picked_map (λ (a : Actor). a.desk.fired) (is_own workers i) 0 actors;
+          };
         }

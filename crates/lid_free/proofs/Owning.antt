@@ -10,7 +10,7 @@ use Rattle.lid_stations.specs.Placements.{links_of, station_count}
 use Rattle.lid_stations.specs.Stations.{filler, drainer}
 use Rattle.lid_stations.specs.Markings.{marking}
 use Rattle.lid_stations.specs.Laws.{StationsHaveTwoEdges}
-use Rattle.lid_free.specs.Settings.{owner, AreOwners}
+use Rattle.lid_free.specs.Workers.{owner, AreOwners}
 
 get_snoc : (xs : List ℕ) (y : ℕ) → get_or (xs ++ y ∷ []) (length xs) 0 ≡ y
 get_snoc [] y = refl

@@ -27,9 +27,8 @@ use Rattle.lid_free_crew.proofs.Rounding.{fired_since_none}
 use Rattle.lid_free_crew.proofs.Sums.{sum_none}
 use Rattle.lid_free_crew.specs.Shares.{is_own, share, numbers_of, holder}
 use Rattle.lid_free_crew.specs.Crews.{HasWorked, HaveWorked}
-use Rattle.lid_free.specs.Settings.{IsCrew}
+use Rattle.lid_free.specs.Workers.{IsCrew, fired_of}
 use Rattle.lid_free.specs.FreeRuns.{IsShareTally, state_of_counts}
-use Rattle.lid_free.specs.Gathering.{fired_of}
 use Rattle.lid_free.proofs.Shares.{rank, picked_at, picked_length, picks_sum}
 use Rattle.lid_free.proofs.Ready.{works_at_start, held_here}
 use Rattle.lid_free.proofs.Crewing.{at_start}

@@ -27,7 +27,7 @@ use Rattle.lid_free_crew.specs.declared.worker.Worker.{Worker}
 use Rattle.lid_free_crew.specs.Posts.{known, IsEndOf, AreApart, IsReady}
 use Rattle.lid_free_crew.specs.Shares.{is_own, picked, share, holder}
 use Rattle.lid_free_crew.specs.Crews.{HasShare}
-use Rattle.lid_free.specs.Settings.{IsEndStart, IsStarted, AreOwners, owner, IsSetOutAs, IsCrew}
+use Rattle.lid_free.specs.Workers.{IsEndStart, IsStarted, AreOwners, owner, IsSetOutAs, IsCrew}
 use Rattle.lid_free.proofs.Shares.{rank, IsFrom, picked_from, picked_short}
 
 module _ (m : Setup) (board : Board) (workers : ℕ) (owners : List ℕ) (actors : List Actor) (crew : List Worker) (c : IsCrew m board workers owners actors crew) where

@@ -18,8 +18,7 @@ use Rattle.lid_free_crew.specs.Tallies.{misses_in, misses_at, misses_of}
 use Rattle.lid_free_crew.proofs.Sums.{sum_none}
 use Rattle.lid_free_crew.specs.Shares.{share, holder}
 use Rattle.lid_free_crew.specs.Crews.{HaveWorked}
-use Rattle.lid_free.specs.Settings.{IsCrew}
-use Rattle.lid_free.specs.Gathering.{fired_of}
+use Rattle.lid_free.specs.Workers.{IsCrew, fired_of}
 use Rattle.lid_free.proofs.Parallel.{fired_read, pair_of, mod_low, run_of, none_fired}
 use Rattle.lid_free.proofs.Ready.{drain_holder, fill_holder, held_here}
 use Rattle.lid_base.proofs.Places.{item_at}

@@ -1,5 +1,5 @@
 -- Elements of shares, and sums over them.
-use Rattle.std.proofs.Common.{◌≡◌, ℕ, zero, suc, ◌+◌, ◌*◌, ◌%◌, ◌<◌, ◌≤◌, ◌==◌, inl, inr, Bool, true, false, cond, List, [], ◌∷◌, ◌++◌, length, refl, sym, ◌∙◌, ap, subst, arith, eq-eqb, ne_eqb}
+use Rattle.std.proofs.Common.{◌≡◌, ℕ, zero, suc, ◌+◌, ◌*◌, ◌%◌, ◌<◌, ◌≤◌, ◌==◌, inl, inr, Bool, true, false, cond, List, [], ◌∷◌, ◌++◌, length, map, refl, sym, ◌∙◌, ap, subst, arith, eq-eqb, ne_eqb}
 use Rattle.std.specs.Prelude.{if◌then◌else◌, Some, slice_get}
 use Rattle.std.specs.List.{sum_by}
 use Rattle.std.proofs.Math.Nat.{mod-lt}
@@ -55,6 +55,16 @@ picked_from {A} p k (y ∷ xs) j x at = by_first (p k) refl j at (λ i later. pi
     by_first true is zero at_j later = record { place = 0; at = at_j; passes = (let z : k + 0 ≡ k = omega arith in ap p z ∙ is); ranks = refl }
     by_first true is (suc i) at_j later = further i true is (later i at_j)
     by_first false is j at_j later = further j false is (later j at_j)
+
+-- a function of the elements of a share
+pub picked_map : {A B : Type 0} (f : A → B) (p : ℕ → Bool) (k : ℕ) (xs : List A) → map f (picked p k xs) ≡ picked p k (map f xs)
+picked_map f p k [] = refl
+picked_map {A} {B} f p k (x ∷ xs) = by_first (p k) (picked_map f p (suc k) xs)
+  where
+    by_first : (b : Bool) → map f (picked p (suc k) xs) ≡ picked p (suc k) (map f xs)
+        → map f (if b then x ∷ picked p (suc k) xs else picked p (suc k) xs) ≡ (if b then f x ∷ picked p (suc k) (map f xs) else picked p (suc k) (map f xs))
+    by_first true later = ap (λ (l : List B). f x ∷ l) later
+    by_first false later = later
 
 pub picked_length : {A B : Type 0} (p : ℕ → Bool) (k : ℕ) (xs : List A) (ys : List B) → length xs ≡ length ys → length (picked p k xs) ≡ length (picked p k ys)
 picked_length p k [] [] same = refl

@@ -24,8 +24,8 @@ use Rattle.lid_free_crew.specs.Alone.{run_from, rounds_of, AreAlone}
 use Rattle.lid_free_crew.proofs.Sweeping.{rounds_sweep}
 use Rattle.lid_free_crew.specs.Shares.{is_own, picked, share, holder}
 use Rattle.lid_free_crew.specs.Crews.{HaveWorked}
-use Rattle.lid_free.specs.Settings.{IsCrew}
-use Rattle.lid_free.specs.Gathering.{fired_of, AreMachines}
+use Rattle.lid_free.specs.Workers.{IsCrew, fired_of}
+use Rattle.lid_free.specs.Gathering.{AreMachines}
 use Rattle.lid_free.proofs.Parallel.{fired_read, HasPair, pair_of}
 use Rattle.lid_free.proofs.Ready.{held_here, works_at_start}
 use Rattle.lid_base.proofs.Each.{each_length, each_get}

@@ -6,6 +6,7 @@ use Rattle.lid_walk_machine.specs.Setups.{plan, output_rows}
 use Rattle.lid_shell_laws.specs.Setups.{Setup}
 use Rattle.lid_shell.specs.Parts.{AreColumnsAtSink}
 use Rattle.lid_free.specs.FreeRuns.{IsShareTally, FitStations, AreWithinRounds, FirstTurnsFire, AreSweeps, Finishes}
+use Rattle.lid_free.specs.Workers.{CountsRun}
 use Rattle.lid_free.specs.declared.run.FreeEnd.{FreeEnd}
 
 pub record IsEnding (m : Setup) (workers made : ℕ) (e : FreeEnd) : Type 0 where
@@ -20,3 +21,4 @@ pub record IsEnding (m : Setup) (workers made : ℕ) (e : FreeEnd) : Type 0 wher
   pub first : 0 < made → FirstTurnsFire (plan m) e.fired
   pub alone : workers ≡ 1 → AreSweeps (plan m) made e.tallies e.fired e.passed
   pub finishes : 0 < workers → Finishes (plan m) e.tallies e.fired e.finish e.finish_fired
+  pub run : CountsRun m workers made e.tallies e.fired

@@ -15,6 +15,7 @@ use Rattle.lid_free_crew.specs.Tallies.{AddsUp, sum_below}
 use Rattle.lid_free_crew.specs.Nothing.{no_turns}
 use Rattle.lid_free_crew.specs.Alone.{run_from, rounds_of}
 use Rattle.lid_free_crew.specs.Shares.{numbers_of}
+use Rattle.lid_free.specs.Workers.{CountsRun}
 use Rattle.lid_free.specs.declared.run.FreeEnd.{FreeEnd}
 
 -- the rounds that are made: without rows none is
@@ -91,8 +92,10 @@ pub record IsLawful (m : Plan) (workers rounds : ℕ) (e : FreeEnd) : Type 0 whe
   pub finishes : Finishes m e.tallies e.fired e.finish e.finish_fired
   pub nothing : m.rows ≡ 0 → IsNothing e
 
--- the strict output rows, and what workers and sweeps did
+-- the strict output rows, and what workers and sweeps did; and there is a run of the workers, turn by turn, of which
+-- these are the tallies and the firings
 pub record IsFreeEnd (m : Setup) (workers rounds : ℕ) (e : FreeEnd) : Type 0 where
   pub columns : AreColumnsAtSink m (sink (plan m)) e.rows.columns
   pub rows : e.rows.bits ≡ output_rows m (length m.input)
   pub lawful : IsLawful (plan m) workers rounds e
+  pub run : CountsRun m workers (rounds_made (plan m) rounds) e.tallies e.fired

@@ -1,9 +1,9 @@
 -- Serves the bodies: what is left of the parallel phase.
-use Rattle.std.specs.Prelude.{◌≡◌, ℕ, ◌+◌, ◌<◌, ◌≤◌, List, [], ◌∷◌, length, map, get_or, Some, slice_get, vec_capacity}
+use Rattle.std.specs.Prelude.{◌≡◌, ℕ, ◌<◌, ◌≤◌, List, [], ◌∷◌, length, get_or, Some, slice_get, vec_capacity}
 use Rattle.lid_base.specs.Each.{from_each}
 use Rattle.lid_base.specs.declared.runs.Tally.{Tally}
 use Rattle.lid_station.specs.declared.pair.Pair.{Pair}
-use Rattle.lid_walk_machine.specs.Plans.{actors_of, stations_of}
+use Rattle.lid_walk_machine.specs.Plans.{actors_of}
 use Rattle.lid_walk_machine.specs.Setups.{plan}
 use Rattle.lid_shell_laws.specs.Setups.{Setup, IsSetup}
 use Rattle.lid_walk_machine.specs.Machine.{begun, sweeps}
@@ -17,10 +17,7 @@ use Rattle.lid_free.specs.Settings.{AreEndsGiven, IsCrewOf}
 use Rattle.lid_free.specs.FreeRuns.{IsShareTally, AreWithinRounds, FirstTurnsFire, state_of_counts}
 use Rattle.lid_free.specs.declared.setting.Boards.{Boards}
 use Rattle.lid_free.specs.declared.setting.Crew.{Crew}
-
--- how often actors have fired
-abbrev pub fired_of : List Actor → List ℕ
-fired_of actors = map (λ a. a.desk.fired) actors
+use Rattle.lid_free.specs.Workers.{fired_of, CountsRun}
 
 -- the workers have made so many rounds
 pub record HasWorkedOut (m : Setup) (workers made : ℕ) (b : Boards) (c : Crew) : Type 0 where
@@ -48,3 +45,4 @@ pub record AreGathered (m : Setup) (workers made : ℕ) (pairs : List Pair) (act
   pub few : AreWithinRounds (plan m) made (fired_of actors)
   pub first : 0 < made → FirstTurnsFire (plan m) (fired_of actors)
   pub alone : workers ≡ 1 → AreMachines m made tallies (fired_of actors)
+  pub run : CountsRun m workers made tallies (fired_of actors)

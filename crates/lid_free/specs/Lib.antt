@@ -5,3 +5,4 @@ pub mod FreeRuns
 pub mod Gathering
 pub mod Sweeps
 pub mod Endings
+pub mod Workers

@@ -4,7 +4,8 @@ ghost use Rattle.std.specs.Prelude.{◌≡◌, ◌==◌, ◌≤◌, ℕ, cond, l
 ghost use Rattle.lid_shell_laws.specs.Setups.{Setup};
 ghost use Rattle.lid_free_crew.specs.Posts.{IsReady};
 ghost use Rattle.lid_free_crew.specs.Crews.{HaveWorked};
-ghost use Rattle.lid_free.specs.Gathering.{fired_of, HasWorkedOut, AreGathered};
+ghost use Rattle.lid_free.specs.Gathering.{HasWorkedOut, AreGathered};
+ghost use Rattle.lid_free.specs.Workers.{fired_of};
 ghost use Rattle.lid_free_crew.specs.declared.worker.Worker.{Worker};
 
 use crate::setting::{Boards, Crew};

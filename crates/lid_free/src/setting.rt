@@ -7,7 +7,8 @@ ghost use Rattle.lid_system.specs.Systems.{IsWellFormed};
 ghost use Rattle.lid_stations.specs.Placements.{Fits};
 ghost use Rattle.lid_shell_laws.specs.Setups.{Setup, IsInputRow};
 ghost use Rattle.lid_walk.specs.Setups.{IsSetupOf};
-ghost use Rattle.lid_free.specs.Settings.{AreBoards, AreOwners, AreEndsGiven, IsCrewOf, IsRoomFor, IsSetOut};
+ghost use Rattle.lid_free.specs.Settings.{AreBoards, AreEndsGiven, IsCrewOf, IsRoomFor, IsSetOut};
+ghost use Rattle.lid_free.specs.Workers.{AreOwners};
 
 use crate::course::StrictCourse;
 use crate::rules::runs_go_by_rules;

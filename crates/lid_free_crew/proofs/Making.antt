@@ -1,7 +1,9 @@
 -- What one turn of an actor does to it and to what is counted.
-use Rattle.std.proofs.Common.{◌≡◌, ◌↔◌, ℕ, ◌+◌, ◌*◌, ◌<◌, ◌≤◌, Bool, cond, List, refl, sym, ◌∙◌, ap, subst, arith, eq-eqb, ne_eqb}
+use Rattle.std.proofs.Common.{◌≡◌, ◌↔◌, ℕ, ◌++◌, length, length-append, ◌+◌, ◌*◌, ◌<◌, ◌≤◌, Bool, cond, List, refl, sym, ◌∙◌, ap, subst, arith, eq-eqb, ne_eqb}
 use Rattle.std.specs.Prelude.{Option, Some, slice_get}
 use Rattle.std.specs.List.{sum_by}
+use Rattle.std.proofs.lemmas.List.{nil_from_length}
+use Rattle.std.proofs.lemmas.Option.{same_Some}
 use Rattle.lid_base.specs.declared.runs.Tally.{Tally}
 use Rattle.lid_station.specs.Boards.{Facts, Ends, fill, drain}
 use Rattle.lid_board.specs.Owners.{start_ends}
@@ -16,7 +18,7 @@ use Rattle.lid_shell.specs.declared.turn.TurnEnd.{TurnEnd}
 use Rattle.lid_shell.specs.declared.turn.TurnEnd.TheVariants.{Fired, Void, Stop, Done}
 use Rattle.lid_shell.specs.Actors.{IsActor}
 use Rattle.lid_shell.specs.Boards.{Agrees, ServesAll}
-use Rattle.lid_shell.specs.Steps.{Works, Moves, missed_end}
+use Rattle.lid_shell.specs.Steps.{Works, Moves, NotesOwn, missed_end}
 use Rattle.lid_shell.specs.Turns.{answer_at, fired_at, EndsSo, Turned}
 use Rattle.lid_shell.specs.TurnEnds.{end_at}
 use Rattle.lid_walk.proofs.Serving.{drains_by, fills_by}
@@ -24,7 +26,7 @@ use Rattle.lid_walk.proofs.Turning.{resting}
 use Rattle.lid_free_crew.specs.Posts.{stations_of, AgreesAt, IsAtWork}
 use Rattle.lid_free_crew.specs.Tallies.{sum_below, counted, fired_one, void_one, stop_one, done_one, misses_at, misses_of, void_misses, stop_misses}
 use Rattle.lid_free_crew.specs.Turns.{HasMadeTurns}
-use Rattle.lid_free_crew.specs.Order.{at_cap, MakesTurn}
+use Rattle.lid_free_crew.specs.Order.{at_cap, MakesTurn, HasMadeSteps}
 use Rattle.lid_free_crew.proofs.Sums.{sum_none, sum_one, below_none, below_one}
 use Rattle.lid_free_crew.proofs.Misses.{missed_one, missed_here, missed_else, AreCounted, sums_more, belows_more}
 
@@ -239,3 +241,18 @@ module _ (board : Board) (before now : Ends) (then_stands : (ℕ → List ℕ) �
       exact = exactly;
     },
   )
+
+-- the steps that a turn noted, where those that were made at the cap are none
+pub steps_made : (a : Actor) (old new : List ℕ) → NotesOwn a (Some old) (Some new) → (a.desk.fired ≡ a.desk.cap → new ≡ old) → HasMadeSteps a old new
+steps_made a old new notes still =
+    let is : new ≡ notes.made ++ old = same_Some new (notes.made ++ old) notes.notes.are in
+    record {
+      made = notes.made;
+      are = is;
+      own = notes.notes.own;
+      some = notes.some;
+      none = λ at_cap.
+          let long = ap length (sym is ∙ still at_cap) in
+          let parts = length-append notes.made old in
+          nil_from_length notes.made (omega arith);
+    }

@@ -1,9 +1,9 @@
--- The turns of a worker, one after another: what a turn of an actor is, and that in each round the actors make
--- theirs in the order of their places.
-use Rattle.std.specs.Prelude.{◌≡◌, ◌↔◌, ℕ, zero, suc, ◌+◌, ◌≤◌, ◌==◌, cond, List, length, set, Some, slice_get}
+-- The turns of a worker, one after another: what a turn of an actor is, which steps of the hand are its, and that in
+-- each round the actors make theirs in the order of their places.
+use Rattle.std.specs.Prelude.{◌≡◌, ◌↔◌, ℕ, zero, suc, ◌+◌, ◌≤◌, ◌==◌, ◌<◌, cond, List, [], ◌++◌, length, set, Some, slice_get}
 use Rattle.lid_base.specs.declared.runs.Tally.{Tally}
 use Rattle.lid_station.specs.Boards.{Ends}
-use Rattle.lid_board.specs.Owners.{start_ends}
+use Rattle.lid_board.specs.Owners.{steps_of, start_ends}
 use Rattle.lid_board.specs.Standing.{AreStreamsOf}
 use Rattle.lid_board.specs.declared.board.Board.{Board}
 use Rattle.lid_board.specs.declared.hand.Hand.{Hand}
@@ -48,14 +48,25 @@ pub record EndsTurn (board : Board) (end : TurnEnd) (before : Ends) (old : Actor
 abbrev pub MakesTurn : Board → Ends → Actor → Tally → Ends → Actor → Tally → Type 0
 MakesTurn board before old was now new is = (end : TurnEnd) × EndsTurn board end before old was now new is
 
--- how far a worker is between two turns: what is known at the ends of its hand, its actors, and what was counted
+-- how an actor's turn shows in the steps of the hand, the latest first: these steps are more, all at ends of the actor,
+-- at least one where it was below its cap and has a station, and none where it was at its cap
+pub record HasMadeSteps (a : Actor) (old new : List ℕ) : Type 0 where
+  pub made : List ℕ
+  pub are : new ≡ made ++ old
+  pub own : (i end : ℕ) → slice_get made i ≡ Some end → IsEndOf a end
+  pub some : (a.desk.fired ≡ a.desk.cap → ⊥) → 0 < length a.desk.ins.items + length a.desk.outs.items → 0 < length made
+  pub none : a.desk.fired ≡ a.desk.cap → made ≡ []
+
+-- how far a worker is between two turns: what is known at the ends of its hand, at which ends the hand made its steps,
+-- the worker's actors, and what was counted
 pub record Stage : Type 0 where
   pub ends : Ends
+  pub steps : List ℕ
   pub actors : List Actor
   pub tally : Tally
 
 abbrev pub stage : Hand → List Actor → Tally → Stage
-stage hand actors tally = record { ends = known hand; actors = actors; tally = tally }
+stage hand actors tally = record { ends = known hand; steps = steps_of hand; actors = actors; tally = tally }
 
 abbrev pub stage_of : Worker → Stage
 stage_of w = stage w.hand w.actors.items w.tally
@@ -66,6 +77,7 @@ pub record TurnAt (board : Board) (place : ℕ) (s t : Stage) : Type 0 where
   pub new : Actor
   pub there : slice_get s.actors place ≡ Some old
   pub turn : MakesTurn board s.ends old s.tally t.ends new t.tally
+  pub steps : HasMadeSteps old s.steps t.steps
   pub others : t.actors ≡ set s.actors place new
 
 -- the first so many actors made a turn each, one after another, from place 0 on

@@ -3,7 +3,7 @@
 ghost use Rattle.std.specs.Prelude.{◌≡◌, ◌+◌, ◌^◌, ◌<◌, ◌≤◌, ℕ, List, length, Some, slice_get};
 ghost use Rattle.lid_base.specs.declared.runs.Tally.{Tally};
 ghost use Rattle.lid_station.specs.Boards.{Ends};
-ghost use Rattle.lid_board.specs.Owners.{IsOf};
+ghost use Rattle.lid_board.specs.Owners.{IsOf, steps_of};
 ghost use Rattle.lid_walk_machine.specs.Setups.{plan};
 ghost use Rattle.lid_shell_laws.specs.Setups.{Setup};
 ghost use Rattle.lid_walk_machine.specs.Machine.{State};
@@ -11,7 +11,7 @@ ghost use Rattle.lid_shell.specs.declared.actor.Actor.{Actor};
 ghost use Rattle.lid_free_crew.specs.Posts.{known, IsAtWork, AreApart};
 ghost use Rattle.lid_free_crew.specs.Tallies.{AddsUp, counted};
 ghost use Rattle.lid_free_crew.specs.Alone.{TurnsSoFar, AreAlone, round_of};
-ghost use Rattle.lid_free_crew.specs.Order.{MakesTurn, stage, TurnsMade};
+ghost use Rattle.lid_free_crew.specs.Order.{MakesTurn, HasMadeSteps, stage, TurnsMade};
 ghost use Rattle.lid_free_crew.specs.Rounds.{Made, GoesRound};
 
 use lid_base::Tally;
@@ -41,6 +41,7 @@ fn make_turn(actor: &mut Actor<'_>, board: &Board, hand: &mut Hand, tally: &mut 
     requires room { tally.old.turns + 1 < 2 ^ 64 }
     ensures of { IsOf hand.new board.now }
     ensures turn { MakesTurn board.now (known hand.old) actor.old tally.old (known hand.new) actor.new tally.new }
+    ensures steps { HasMadeSteps actor.old (steps_of hand.old) (steps_of hand.new) }
 {
     let mut stations = Attended {
         board,

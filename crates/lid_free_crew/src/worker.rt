@@ -33,7 +33,8 @@ pub struct Worker<'r> {
 ///
 /// The hand is one of this board. All actors are at rest and agree with the hand, and no two of them share an end.
 /// They number at most 2^18, the rounds at most 1,000,000, and the tally is all zero. Afterwards all are at rest and
-/// in agreement again, and the tally has how all turns ended. Nothing waits here, and no memory is taken.
+/// in agreement again, and the tally has how all turns ended. The hand notes the ends of its steps turn by turn, in that
+/// order. Nothing waits here, and no memory is taken.
 pub fn work<G: Gate>(worker: &mut Worker<'_>, board: &Board, rounds: u64, gate: &G)
     requires ready { IsReady board.now worker.old }
     requires few { rounds ≤ 1000000 }

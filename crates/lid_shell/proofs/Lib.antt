@@ -11,3 +11,4 @@ pub mod Begun
 pub mod Served
 pub mod Ended
 pub mod Along
+pub mod Noting

@@ -1,8 +1,8 @@
 -- What a step of an actor does to it and to the board.
-use Rattle.std.specs.Prelude.{◌≡◌, ℕ, ◌+◌, ◌<◌, ◌≤◌, ◌⊎◌, ◌==◌, Bool, true, false, if◌then◌else◌, List, Option, Some, None, option_map, slice_get}
+use Rattle.std.specs.Prelude.{◌≡◌, ℕ, ◌+◌, ◌<◌, ◌≤◌, ◌⊎◌, ◌==◌, Bool, true, false, if◌then◌else◌, List, ◌++◌, length, Option, Some, None, option_map, slice_get}
 use Rattle.lid_base.specs.declared.runs.Answer.{Answer}
 use Rattle.lid_base.specs.declared.runs.Answer.TheVariants.{Void, Stop}
-use Rattle.lid_station.specs.Boards.{Facts, Ends, fill, drain}
+use Rattle.lid_station.specs.Boards.{Facts, Ends, fill, drain, noted}
 use Rattle.lid_walk_machine.specs.Plans.{cap, stream}
 use Rattle.lid_walk_machine.specs.Setups.{plan}
 use Rattle.lid_shell_laws.specs.Setups.{Setup}
@@ -56,6 +56,22 @@ misses_after (Some at) end misses = if end == at then option_map (λ n. n + 1) m
 abbrev pub IsOwn : List ℕ → List ℕ → ℕ → Type 0
 IsOwn ins outs end =
     (station : ℕ) × (i : ℕ) × (((slice_get ins i ≡ Some station) × (end ≡ drain station)) ⊎ ((slice_get outs i ≡ Some station) × (end ≡ fill station)))
+
+-- one step was noted, where steps are noted: at an end of these stations
+abbrev pub NotesOne : List ℕ → List ℕ → Option (List ℕ) → Option (List ℕ) → Type 0
+NotesOne ins outs old new = (end : ℕ) × IsOwn ins outs end × (new ≡ noted end old)
+
+-- these steps were noted, the latest first, where steps are noted: at ends of these stations alone
+pub record Notes (ins outs made : List ℕ) (old new : Option (List ℕ)) : Type 0 where
+  pub are : new ≡ option_map (λ (ends : List ℕ). made ++ ends) old
+  pub own : (i end : ℕ) → slice_get made i ≡ Some end → IsOwn ins outs end
+
+-- an actor that was so noted its steps: at its own ends alone, and at least one where it was below its cap and has
+-- a station
+pub record NotesOwn (a : Actor) (old new : Option (List ℕ)) : Type 0 where
+  pub made : List ℕ
+  pub notes : Notes a.desk.ins.items a.desk.outs.items made old new
+  pub some : (a.desk.fired ≡ a.desk.cap → ⊥) → 0 < length a.desk.ins.items + length a.desk.outs.items → 0 < length made
 
 -- what was known at an end, and what is known now, where a look missed at one end, or none did
 pub record Stays (missed : Option ℕ) (end : ℕ) (old new : Facts) : Type 0 where

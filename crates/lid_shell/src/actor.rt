@@ -12,7 +12,7 @@ ghost use Rattle.lid_walk_machine.specs.Machine.{Progress, State, turn, turn_ans
 ghost use Rattle.lid_shell.specs.Boards.{ServesAll};
 ghost use Rattle.lid_shell.specs.Parts.{IsSinkRole, AreColumnsAtSink};
 ghost use Rattle.lid_shell.specs.Actors.{IsActor};
-ghost use Rattle.lid_shell.specs.Steps.{Works, CanStep, CanTurn, MakesStep, IsExact, missed_end, Moves, MissesLate};
+ghost use Rattle.lid_shell.specs.Steps.{Works, CanStep, CanTurn, MakesStep, IsExact, missed_end, Moves, NotesOwn, MissesLate};
 ghost use Rattle.lid_shell.specs.Turns.{answer_at, Turned};
 ghost use Rattle.lid_shell.specs.TurnEnds.{end_at};
 ghost use Rattle.lid_shell.specs.declared.turn.TurnEnd.TheVariants as end;
@@ -129,7 +129,8 @@ impl<'r> Actor<'r> {
     /// Makes one step at a board, which serves the actor's ends in agreement with how far it is. At its cap it answers
     /// `Done`, and nothing changes. A look answers what it finds; where it finds nothing, the actor goes back to the
     /// first position, and that is one miss, where the board counts misses. The last take or put of a firing tells
-    /// that the actor has fired; an actor without stations fires in one step.
+    /// that the actor has fired; an actor without stations fires in one step. Each step but these two is noted once, at
+    /// an end of the actor, where the board notes steps.
     pub fn step<B: Stations>(&mut self, board: &mut B) -> Answer
         requires can { CanStep self.old (B.ends board.old) (B.stands board.old) }
         ensures steps { (m : Setup) (v : ℕ) (q : Progress) → Works m v q self.old (B.ends board.old) (B.stands board.old)
@@ -137,6 +138,7 @@ impl<'r> Actor<'r> {
         ensures exact { (m : Setup) (v : ℕ) (st : State) → Works m v (st v) self.old (B.ends board.old) (B.stands board.old)
             → ServesAll m st v (B.ends board.old) → IsExact m st v result }
         ensures moves { Moves self.old.desk.ins.items self.old.desk.outs.items (missed_end result) (B.ends board.old) (B.ends board.new) }
+        ensures notes { NotesOwn self.old (B.steps board.old) (B.steps board.new) }
         ensures late { MissesLate (B.ends board.old) result }
         ensures done { result ≡ answer.Done → (self.new ≡ self.old) × (board.new ≡ board.old) }
         ensures same { B.identity board.new ≡ B.identity board.old }
@@ -159,7 +161,8 @@ impl<'r> Actor<'r> {
     /// Makes one turn at a board: steps from rest until the actor is at rest again. It is at rest, and the board serves
     /// its ends in agreement. `Void` and `Stop` tell the station at which the last look found nothing, and that is one
     /// miss, where the board counts misses; with any other end there was none. `Done` comes exactly at the cap, with
-    /// nothing changed.
+    /// nothing changed. Where the board notes steps, all that are noted are at ends of the actor, and there is at least
+    /// one, but at the cap or without stations.
     pub fn turn<B: Stations>(&mut self, board: &mut B) -> TurnEnd
         requires can { CanTurn self.old (B.ends board.old) (B.stands board.old) }
         ensures turned { (m : Setup) (v fired : ℕ)
@@ -168,6 +171,7 @@ impl<'r> Actor<'r> {
         ensures exact { (m : Setup) (v : ℕ) (st : State) → (st v).position ≡ 0 → Works m v (st v) self.old (B.ends board.old) (B.stands board.old)
             → ServesAll m st v (B.ends board.old) → (result ≡ end_at (turn_answer (plan m) st v)) × IsActor m v (turn (plan m) st v v) self.new }
         ensures moves { Moves self.old.desk.ins.items self.old.desk.outs.items (missed_end (answer_at result)) (B.ends board.old) (B.ends board.new) }
+        ensures notes { NotesOwn self.old (B.steps board.old) (B.steps board.new) }
         ensures late { MissesLate (B.ends board.old) (answer_at result) }
         ensures done { result ≡ end.Done → (self.new ≡ self.old) × (board.new ≡ board.old) }
         ensures same { B.identity board.new ≡ B.identity board.old }

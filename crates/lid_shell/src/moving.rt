@@ -6,7 +6,7 @@ ghost use Rattle.lid_shell_laws.specs.Setups.{Setup};
 ghost use Rattle.lid_walk_machine.specs.Machine.{Progress};
 ghost use Rattle.lid_shell.specs.declared.desk.Next.TheVariants.{Take, Put};
 ghost use Rattle.lid_shell.specs.Inside.{CanDo, CanPut, AreMade, IsAbout, IsBusyAtBoard, HasTaken, HasPut};
-ghost use Rattle.lid_shell.specs.Steps.{Moves};
+ghost use Rattle.lid_shell.specs.Steps.{Moves, NotesOne};
 
 use crate::desk::Desk;
 use crate::rules::actors_go_by_rules;
@@ -28,6 +28,7 @@ impl Desk {
         ensures takes { (m : Setup) (v : ℕ) (q : Progress) → IsBusyAtBoard m v q self.old (B.ends board.old) (B.stands board.old)
             → IsAbout m v q (Take i) → HasTaken m v q i result self.new (B.ends board.new) (B.stands board.new) }
         ensures moves { Moves self.old.ins.items self.old.outs.items None (B.ends board.old) (B.ends board.new) }
+        ensures notes { NotesOne self.old.ins.items self.old.outs.items (B.steps board.old) (B.steps board.new) }
         ensures same { B.identity board.new ≡ B.identity board.old }
     {
         let token = board.take(self.ins.as_slice()[i]);
@@ -43,6 +44,7 @@ impl Desk {
             → IsAbout m v q (Put j) → AreMade m v q.fired self.old.tokens.items
             → HasPut m v q j result self.new (B.ends board.new) (B.stands board.new) }
         ensures moves { Moves self.old.ins.items self.old.outs.items None (B.ends board.old) (B.ends board.new) }
+        ensures notes { NotesOne self.old.ins.items self.old.outs.items (B.steps board.old) (B.steps board.new) }
         ensures same { B.identity board.new ≡ B.identity board.old }
     {
         actors_go_by_rules();

@@ -1,6 +1,6 @@
 -- What the clauses on stations say: what is known of an end, how a call changes it, and what a look
 -- finds.
-use Rattle.std.specs.Prelude.{◌≡◌, ℕ, ◌+◌, ◌-◌, ◌*◌, ◌/◌, ◌%◌, ◌^◌, ◌<◌, ◌≤◌, ◌==◌, cond, Bool, true, false, List, take, Option, Some, option_map, slice_get}
+use Rattle.std.specs.Prelude.{◌≡◌, ℕ, ◌+◌, ◌-◌, ◌*◌, ◌/◌, ◌%◌, ◌^◌, ◌<◌, ◌≤◌, ◌==◌, cond, Bool, true, false, List, ◌∷◌, take, Option, Some, option_map, slice_get}
 use Rattle.lid_station.specs.declared.looks.InLook.{InLook}
 use Rattle.lid_station.specs.declared.looks.InLook.TheVariants.{Token, Void}
 use Rattle.lid_station.specs.declared.looks.OutLook.{OutLook}
@@ -52,6 +52,10 @@ advanced f = record f { passed = f.passed + 1; mark = false }
 -- whether one end changed by a step, and no other end at all
 abbrev pub Changes : Ends → ℕ → (Facts → Facts) → Ends → Type 0
 Changes old end step new = (k : ℕ) → new k ≡ cond (k == end) (option_map step (old k)) (old k)
+
+-- the ends at which steps were made, the latest first, with one more; none where they are not noted
+abbrev pub noted : ℕ → Option (List ℕ) → Option (List ℕ)
+noted end steps = option_map (λ (ends : List ℕ). end ∷ ends) steps
 
 -- what a look does to the end at which it is made
 abbrev pub looked_in : InLook → Facts → Facts

@@ -1,6 +1,6 @@
 //! A board of plain stations, for one thread.
 
-ghost use Rattle.std.specs.Prelude.{◌≡◌, ℕ, ◌+◌, ◌*◌, ◌%◌, ◌/◌, ◌^◌, ◌<◌, ◌≤◌, ◌-◌, cond, nat_lt, List, length, get_or, IfSome, IfOk};
+ghost use Rattle.std.specs.Prelude.{◌≡◌, ℕ, ◌+◌, ◌*◌, ◌%◌, ◌/◌, ◌^◌, ◌<◌, ◌≤◌, ◌-◌, cond, nat_lt, List, length, get_or, IfSome, IfOk, None};
 ghost use base.Stored.{gnil};
 ghost use Rattle.lid_station.specs.Plain.{plain_ends, PlainStands, PlainAdmits};
 ghost use Rattle.lid_station.specs.PlainLaws.{plain_next, plain_within};
@@ -18,7 +18,7 @@ const FULL: u64 = 1 << 31;
 /// What bit 32 stands for, the lowest bit of an odd place.
 const ODD: u64 = 1 << 32;
 
-/// Plain stations, which one thread steps. All their ends are served, and misses are not counted.
+/// Plain stations, which one thread steps. All their ends are served; misses are not counted, and steps are not noted.
 ///
 /// They carry any streams of 31-bit tokens, each of fewer than 2^64, whose tokens from the number
 /// taken up to the number put are those that the station holds. A token is admitted where it is
@@ -103,6 +103,8 @@ impl Stations for PlainBoard {
     ghost stands = { λ board. PlainStands board.pairs.items };
 
     ghost admits = { λ board. PlainAdmits board.pairs.items };
+
+    ghost steps = { λ _. None };
 
     ghost identity = { λ _. gnil };
 

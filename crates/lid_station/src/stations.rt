@@ -2,7 +2,7 @@
 
 ghost use Rattle.std.specs.Prelude.{◌≡◌, ℕ, ◌+◌, ◌/◌, ◌^◌, ◌<◌, ◌≤◌, List, length, Some, Option, slice_get, ◌↔◌};
 ghost use base.Stored.{Gv};
-ghost use Rattle.lid_station.specs.Boards.{Facts, fill, drain, IsServed, IsMarked, advanced, Changes, looked_in, looked_out, IsToken, IsVoid, IsRoom, IsStop, FindsIn, FindsOut, HasSmallToken, TellsNothing, TellsFull, HasFilled, HasDrained};
+ghost use Rattle.lid_station.specs.Boards.{Facts, fill, drain, IsServed, IsMarked, advanced, Changes, noted, looked_in, looked_out, IsToken, IsVoid, IsRoom, IsStop, FindsIn, FindsOut, HasSmallToken, TellsNothing, TellsFull, HasFilled, HasDrained};
 
 use crate::looks::{InLook, OutLook};
 
@@ -16,8 +16,9 @@ use crate::looks::{InLook, OutLook};
 ///
 /// `stands` tells whether the stations carry given streams, one for each station. The tokens that
 /// passed an end are then the first of the station's stream, and no end was passed by more than the
-/// stream has. `admits` tells whether a token may be put in a station. `identity` is what the stations are made of: a call on a part of them that was
-/// lent is a call on the same stations.
+/// stream has. `admits` tells whether a token may be put in a station. `steps` has the end of each call that was made,
+/// the latest first, where that is noted: each of the four calls notes its end once. `identity` is what the stations are
+/// made of: a call on a part of them that was lent is a call on the same stations.
 ///
 /// No call takes memory, and none changes which ends are served, a capacity or a start count.
 pub trait Stations {
@@ -26,6 +27,8 @@ pub trait Stations {
     ghost stands: { Self → (ℕ → List ℕ) → Type 0 };
 
     ghost admits: { Self → ℕ → ℕ → Type 0 };
+
+    ghost steps: { Self → Option (List ℕ) };
 
     ghost identity: { Self → Gv };
 
@@ -46,6 +49,7 @@ pub trait Stations {
         ensures exact { (f : Facts) → (d : Facts) → ends self.old (fill station) ≡ Some f → ends self.old (drain station) ≡ Some d
             → (IsVoid result ↔ f.passed ≡ d.passed) }
         ensures kept { (streams : ℕ → List ℕ) → stands self.old streams → stands self.new streams }
+        ensures steps { steps self.new ≡ noted (drain station) (steps self.old) }
         ensures same { identity self.new ≡ identity self.old };
 
     /// Looks for room at a station whose filled end is served. Room is then seen; `Stop` is one
@@ -64,6 +68,7 @@ pub trait Stations {
         ensures exact { (f : Facts) → (d : Facts) → ends self.old (fill station) ≡ Some f → ends self.old (drain station) ≡ Some d
             → (IsStop result ↔ f.passed ≡ d.passed + f.cap) }
         ensures kept { (streams : ℕ → List ℕ) → stands self.old streams → stands self.new streams }
+        ensures steps { steps self.new ≡ noted (fill station) (steps self.old) }
         ensures same { identity self.new ≡ identity self.old };
 
     /// Takes the token that was seen, which is the next of the station's stream.
@@ -74,6 +79,7 @@ pub trait Stations {
             → slice_get (streams station) f.passed ≡ Some result }
         ensures small { result < 2 ^ 31 }
         ensures kept { (streams : ℕ → List ℕ) → stands self.old streams → stands self.new streams }
+        ensures steps { steps self.new ≡ noted (drain station) (steps self.old) }
         ensures same { identity self.new ≡ identity self.old };
 
     /// Puts a token below 2^31 that is admitted into the room that was seen.
@@ -84,6 +90,7 @@ pub trait Stations {
         ensures changed { Changes (ends self.old) (fill station) advanced (ends self.new) }
         ensures kept { (streams : ℕ → List ℕ) → (f : Facts) → stands self.old streams → ends self.old (fill station) ≡ Some f
             → slice_get (streams station) f.passed ≡ Some token → stands self.new streams }
+        ensures steps { steps self.new ≡ noted (fill station) (steps self.old) }
         ensures same { identity self.new ≡ identity self.old };
 
     ghost next_is_admitted: { (board : Self) → (streams : ℕ → List ℕ) → (station : ℕ) → (token : ℕ) → (f : Facts) → stands board streams → ends board (fill station) ≡ Some f → slice_get (streams station) f.passed ≡ Some token → admits board station token };

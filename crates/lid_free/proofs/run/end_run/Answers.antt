@@ -6,7 +6,7 @@ use Rattle.lid_shell.specs.declared.actor.Actor.{Actor}
 use Rattle.lid_walk_machine.specs.Setups.{plan}
 use Rattle.lid_walk_machine.specs.Machine.{sweeps}
 use Rattle.lid_free.specs.FreeRuns.{state_of_counts}
-use Rattle.lid_free.specs.Gathering.{fired_of}
+use Rattle.lid_free.specs.Workers.{fired_of}
 use Rattle.lid_free.proofs.Ended.{ending}
 use Rattle.lid_free.proofs.run.end_run.Goals as goal
 

@@ -2,7 +2,7 @@ use Rattle.std.proofs.Common.{◌≡◌, ◌*◌, ◌<◌, length, sym, ◌∙�
 use Rattle.lid_graph.specs.declared.graph.Edge.{Edge}
 use Rattle.lid_graph.specs.Walks.{no_edge}
 use Rattle.std.specs.Prelude.{List, slice_index_or}
-use Rattle.lid_free.specs.Settings.{AreOwners}
+use Rattle.lid_free.specs.Workers.{AreOwners}
 use Rattle.lid_free.proofs.Owning.{owners_more, no_owners}
 use Rattle.lid_free.proofs.setting.owners_of.Goals as goal
 

@@ -1,4 +1,4 @@
-use Rattle.lid_free.specs.Settings.{AreOwners}
+use Rattle.lid_free.specs.Workers.{AreOwners}
 use Rattle.lid_free.proofs.setting.owners_of.Given as goal
 
 abbrev pub invariant-loop-end : goal.invariant-loop-end

@@ -8,7 +8,8 @@ use Rattle.lid_walk.specs.Setups.{IsSetupOf}
 use Rattle.lid_walk.proofs.Opening.{setup_of}
 use Rattle.lid_free_crew.specs.declared.worker.Worker.{Worker}
 use Rattle.lid_free_crew.specs.Crews.{AreHired, AreDealt}
-use Rattle.lid_free.specs.Settings.{AreBoards, AreOwners, IsCrew}
+use Rattle.lid_free.specs.Settings.{AreBoards}
+use Rattle.lid_free.specs.Workers.{AreOwners, IsCrew}
 use Rattle.lid_free.proofs.Crewing.{all_owned, none_seen, crew_so}
 use Rattle.lid_free.proofs.setting.start_crew.Goals as goal
 

@@ -54,6 +54,7 @@ loop-at-preserved c =
             new = c.make_turn.new.actor;
             there = there;
             turn = c.make_turn.ensures.turn;
+            steps = c.make_turn.ensures.steps;
             others = refl;
           });
     }

@@ -12,4 +12,4 @@ load_as-found-requires-clause-rule c =
 
 pub returns-then-half-eq0-clause-found : goal.returns-then-half-eq0-clause-found
 returns-then-half-eq0-clause-found c =
-    (c.load_as-found.ensures.told.void (sym c.half_at-half.ensures ∙ c.if-half-eq0.true)).nothing ∙ sym (word_nothing _ _ _ _ (omega arith))
+    (c.load_as-found.ensures.told.ends.void (sym c.half_at-half.ensures ∙ c.if-half-eq0.true)).nothing ∙ sym (word_nothing _ _ _ _ (omega arith))

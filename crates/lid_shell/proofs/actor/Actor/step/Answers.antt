@@ -5,6 +5,7 @@ use Rattle.lid_shell.specs.declared.desk.Next.TheVariants.{LookIn, LookOut, Take
 use Rattle.lid_shell.specs.Steps.{found_in}
 use Rattle.lid_shell.proofs.Places.{few_ins, few_outs}
 use Rattle.lid_shell.proofs.Stepped.{ready, about_of, stepped_in, stepped_out, stepped_on, exact_at, fires_so}
+use Rattle.lid_shell.proofs.Noting.{none_noted, one_noted, no_station}
 use Rattle.lid_shell.proofs.actor.Actor.step.Goals as goal
 
 pub returns-then-self-clause-exact : goal.returns-then-self-clause-exact
@@ -77,3 +78,23 @@ pub returns-in-Fire-clause-exact : goal.returns-in-Fire-clause-exact
 returns-in-Fire-clause-exact g c = λ m v st w serves below.
     let about = about_of m v (st v) c.args.self.now.desk Fire w.actor.at c.in-Fire.ensures in
     exact_at m v st Fire true about refl
+
+pub returns-then-self-clause-notes : goal.returns-then-self-clause-notes
+returns-then-self-clause-notes g c = none_noted c.args.self.now _ (λ below some. below c.if-self.true)
+
+pub returns-in-LookIn-clause-notes : goal.returns-in-LookIn-clause-notes
+returns-in-LookIn-clause-notes g c = one_noted c.args.self.now _ _ c.look_in.ensures.notes
+
+pub returns-in-LookOut-clause-notes : goal.returns-in-LookOut-clause-notes
+returns-in-LookOut-clause-notes g c = one_noted c.args.self.now _ _ c.look_out.ensures.notes
+
+pub returns-in-Take-clause-notes : goal.returns-in-Take-clause-notes
+returns-in-Take-clause-notes g c = one_noted c.args.self.now _ _ c.take.ensures.notes
+
+pub returns-in-Put-clause-notes : goal.returns-in-Put-clause-notes
+returns-in-Put-clause-notes g c = one_noted c.args.self.now _ _ c.put.ensures.notes
+
+pub returns-in-Fire-clause-notes : goal.returns-in-Fire-clause-notes
+returns-in-Fire-clause-notes g c =
+    let q = c.requires.can in
+    none_noted c.args.self.now _ (λ below. no_station c.args.self.now q.0 q.1 q.2.fired q.2.position _ _ q.3 c.in-Fire.ensures)

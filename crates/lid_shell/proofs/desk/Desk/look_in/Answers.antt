@@ -48,3 +48,13 @@ pub returns-in-Void-clause-moves : goal.returns-in-Void-clause-moves
 returns-in-Void-clause-moves g c =
     let q = c.requires in
     moves_missed _ _ _ _ _ c.in-Void.ensures.changed (own_read q.setup q.number q.far c.args.self.now c.as_slice.result.now c.args.i q.work.busy.at c.as_slice.ensures q.about.1)
+
+pub returns-in-Token-clause-notes : goal.returns-in-Token-clause-notes
+returns-in-Token-clause-notes g c =
+    let q = c.requires in
+    (_, own_read q.setup q.number q.far c.args.self.now c.as_slice.result.now c.args.i q.work.busy.at c.as_slice.ensures q.about.1, c.in-Token.ensures.steps)
+
+pub returns-in-Void-clause-notes : goal.returns-in-Void-clause-notes
+returns-in-Void-clause-notes g c =
+    let q = c.requires in
+    (_, own_read q.setup q.number q.far c.args.self.now c.as_slice.result.now c.args.i q.work.busy.at c.as_slice.ensures q.about.1, c.in-Void.ensures.steps)

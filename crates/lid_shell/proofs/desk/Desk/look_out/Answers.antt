@@ -53,3 +53,13 @@ pub returns-in-Stop-clause-moves : goal.returns-in-Stop-clause-moves
 returns-in-Stop-clause-moves g c =
     let q = c.requires in
     moves_missed _ _ _ _ _ c.in-Stop.ensures.changed (own_wrote q.setup q.number q.far c.args.self.now c.as_slice.result.now c.args.j q.work.busy.at c.as_slice.ensures q.about.1)
+
+pub returns-in-Room-clause-notes : goal.returns-in-Room-clause-notes
+returns-in-Room-clause-notes g c =
+    let q = c.requires in
+    (_, own_wrote q.setup q.number q.far c.args.self.now c.as_slice.result.now c.args.j q.work.busy.at c.as_slice.ensures q.about.1, c.in-Room.ensures.steps)
+
+pub returns-in-Stop-clause-notes : goal.returns-in-Stop-clause-notes
+returns-in-Stop-clause-notes g c =
+    let q = c.requires in
+    (_, own_wrote q.setup q.number q.far c.args.self.now c.as_slice.result.now c.args.j q.work.busy.at c.as_slice.ensures q.about.1, c.in-Stop.ensures.steps)

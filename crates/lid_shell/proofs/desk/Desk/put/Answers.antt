@@ -54,3 +54,8 @@ pub returns-clause-moves : goal.returns-clause-moves
 returns-clause-moves g c =
     let q = c.requires in
     moves_advanced _ _ _ _ _ c.put.ensures.changed (own_wrote q.setup q.number q.far c.args.self.now c.as_slice-2.result.now c.args.j q.work.busy.at c.as_slice-2.ensures q.about.1)
+
+pub returns-clause-notes : goal.returns-clause-notes
+returns-clause-notes g c =
+    let q = c.requires in
+    (_, own_wrote q.setup q.number q.far c.args.self.now c.as_slice-2.result.now c.args.j q.work.busy.at c.as_slice-2.ensures q.about.1, c.put.ensures.steps)

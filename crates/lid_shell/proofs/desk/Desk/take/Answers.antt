@@ -39,3 +39,8 @@ pub returns-clause-moves : goal.returns-clause-moves
 returns-clause-moves g c =
     let q = c.requires in
     moves_advanced _ _ _ _ _ c.take-token.ensures.changed (own_read q.setup q.number q.far c.args.self.now c.as_slice.result.now c.args.i q.work.busy.at c.as_slice.ensures q.about.1)
+
+pub returns-clause-notes : goal.returns-clause-notes
+returns-clause-notes g c =
+    let q = c.requires in
+    (_, own_read q.setup q.number q.far c.args.self.now c.as_slice.result.now c.args.i q.work.busy.at c.as_slice.ensures q.about.1, c.take-token.ensures.steps)
