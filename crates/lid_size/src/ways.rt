@@ -50,7 +50,8 @@ fn tokens_with(graph: &Graph, count: u32, done: &[u32], next: u32, k: u32) -> u3
     requires range { All IsCapacity done.now }
     requires next { IsCapacity next }
     requires within { k < length graph.now.edges }
-    ensures is { (s : System) (relays : List ℕ) → IsWidest graph.now count s relays → result ≡ (edge_at (sized (links_of s) relays (followed count done.now next)) k).tokens }
+    ensures is { (s : System) (relays : List ℕ) → IsWidest graph.now count s relays
+        → result ≡ (edge_at (sized (links_of s) relays (followed count done.now next)) k).tokens }
     ensures few { result ≤ 16 }
 {
     let tokens = edge(graph, k).tokens;
