@@ -101,7 +101,8 @@ pub fn fetch_at<S: Shelf>(
     into: &mut [u8],
 ) -> Result<usize, FetchFault>
     ensures within { IfOk result (λ n. n ≤ length into.new) }
-    ensures told { IfOk result (λ n. (before : List ℕ) → length before ≡ at → FetchedNext S.whole (S.held shelf.old name.now) before (before ++ take n into.new) (length into.old)) }
+    ensures told { IfOk result (λ n. (before : List ℕ) → length before ≡ at
+        → FetchedNext S.whole (S.held shelf.old name.now) before (before ++ take n into.new) (length into.old)) }
     ensures came { Came (S.fetches shelf.old) (S.fetches shelf.new) (one_fetch name.now at (length into.old)) }
     ensures still { OnOk result ((q : List ℕ) → S.faults shelf.new q ≡ S.faults shelf.old q) }
     ensures failed { IfErr result (λ e. (e ≡ FetchFault.Read) × Rose (S.faults shelf.old name.now) (S.faults shelf.new name.now)) }

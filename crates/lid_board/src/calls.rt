@@ -79,7 +79,8 @@ impl Board {
         ensures full { TellsFull result (facts (held (ends_of hand.old) (fill station))) }
         ensures again { (held (ends_of hand.old) (fill station)).mark ≡ true → IsRoom result }
         ensures exact { IsOwned (ends_of hand.old) (drain station)
-            → (IsStop result ↔ (held (ends_of hand.old) (fill station)).passed ≡ (held (ends_of hand.old) (drain station)).passed + (held (ends_of hand.old) (fill station)).cap) }
+            → (IsStop result ↔ (held (ends_of hand.old) (fill station)).passed ≡ (held (ends_of hand.old) (drain station)).passed
+            + (held (ends_of hand.old) (fill station)).cap) }
     {
         let spot = self.spot(hand, station, 2 * station as usize);
         let cells = &self.table.shared;

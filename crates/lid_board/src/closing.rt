@@ -84,7 +84,8 @@ impl Board {
         requires of { IsOf hand self }
         requires all { (end : ℕ) → end < length (start_ends self) → IsOwned (ends_of hand) end }
         requires many { length (start_ends self) ≡ 2 * length into.old.pairs.items }
-        requires caps { (station : ℕ) → (p : Pair) → slice_get into.old.pairs.items station ≡ Some p → length p.places.items ≡ capacity_of (start_ends self) station }
+        requires caps { (station : ℕ) → (p : Pair) → slice_get into.old.pairs.items station ≡ Some p
+            → length p.places.items ≡ capacity_of (start_ends self) station }
         ensures many { length into.new.pairs.items ≡ length into.old.pairs.items }
         ensures ends { (end : ℕ) → end < length (start_ends self) → plain_ends into.new.pairs.items end ≡ Some (closed_facts (held (ends_of hand) end)) }
         ensures stands { (streams : ℕ → List ℕ) → AreStreamsOf (start_ends self) streams → PlainStands into.new.pairs.items streams }

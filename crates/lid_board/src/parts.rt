@@ -88,7 +88,8 @@ impl Board {
         ensures of { IsOf hand.new self.now }
         ensures new_of { IfOk result (λ new. IsOf new self.now) }
         ensures kept { OnOk result ((end : ℕ) → at (ends_of hand.new) end ≡ cond (is_chosen ends.now end) None (at (ends_of hand.old) end)) }
-        ensures given { IfOk result (λ new. (end : ℕ) → at (ends_of new) end ≡ cond (is_chosen ends.now end) (option_map unseen (at (ends_of hand.old) end)) None) }
+        ensures given { IfOk result (λ new. (end : ℕ) → at (ends_of new) end
+            ≡ cond (is_chosen ends.now end) (option_map unseen (at (ends_of hand.old) end)) None) }
         ensures steps { OnOk result (steps_of hand.new ≡ steps_of hand.old) }
         ensures new_steps { IfOk result (λ new. steps_of new ≡ []) }
         ensures err { OnErr result (hand.new ≡ hand.old) }

@@ -1,6 +1,6 @@
 -- Lives: all that a clocked run may depend on. A run is given rows one by one, so it is one of many lives: of
 -- each whose rows begin with those that were given, and whose hold is that of the cycles made.
-use Rattle.std.specs.Prelude.{◌≡◌, ℕ, ◌+◌, ◌-◌, ◌<◌, ◌≤◌, ◌==◌, Bool, false, if◌then◌else◌, List, length, Option, Some, None, slice_get}
+use Rattle.std.specs.Prelude.{◌≡◌, ℕ, ◌+◌, ◌-◌, ◌<◌, ◌==◌, Bool, false, if◌then◌else◌, List, length, Option, Some, None, slice_get}
 use Rattle.lid_base.specs.declared.runs.Shown.{Shown}
 use Rattle.lid_graph.specs.Firings.{Counts, Hold}
 use Rattle.lid_system.specs.declared.System.{System}

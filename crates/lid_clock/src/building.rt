@@ -2,7 +2,8 @@
 
 ghost use Rattle.std.specs.Prelude.{◌≡◌, ◌+◌, ◌-◌, ◌<◌, ℕ, Bool, List, length, Option, IfOk, IfSome};
 ghost use Rattle.lid_system.specs.Systems.{IsWellFormed};
-ghost use Rattle.lid_stations.specs.Placements.{links_of, Fits};
+ghost use Rattle.lid_stations.specs.Placements.{links_of};
+ghost use Rattle.lid_stations.specs.Placed.{links_in};
 ghost use Rattle.lid_stations.specs.Stations.{actor_count};
 ghost use Rattle.lid_shell_laws.specs.Runs.{cap_of};
 ghost use Rattle.lid_shell_laws.specs.Setups.{IsInputRow};
@@ -12,7 +13,7 @@ ghost use Rattle.lid_clock.specs.Starts.{IsNewRole, IsNew, IsAlone, AreUnjoined}
 use crate::actor::ClockActor;
 use crate::part::Role;
 use lid_shell_nodes::{ShellNode, SinkNode, SourceNode};
-use lid_stations::Placement;
+use lid_stations::Placed;
 use lid_system::System;
 use std::alloc::{AllocError, Global};
 
@@ -124,31 +125,28 @@ fn new_actor(
 }
 
 /// How many actors there are: all nodes, and a mover for each station but the last of each channel.
-fn actors_of(system: &System, placement: &Placement) -> u32
-    requires system { IsWellFormed system.now }
-    requires fits { Fits system.now placement.now }
-    ensures is { result ≡ actor_count (links_of system.now) placement.now }
+fn actors_of(placed: &Placed<'_>) -> u32
+    ensures is { result ≡ actor_count (links_in placed.now) placed.now.placement }
     ensures few { result < 2147483648 }
 {
-    (system.nodes.len() + (placement.caps.len() - placement.relays.len())) as u32
+    let movers = placed.placement.caps.len() - placed.placement.relays.len();
+    (placed.system.nodes.len() + movers) as u32
 }
 
 /// All actors, to which no station is joined.
 pub(crate) fn new_actors(
     alloc: Global,
-    system: &System,
-    placement: &Placement,
+    placed: &Placed<'_>,
     rows: u64,
     first: Option<&[bool]>,
 ) -> Result<Vec<ClockActor>, AllocError>
-    requires system { IsWellFormed system.now }
-    requires fits { Fits system.now placement.now }
-    requires first { IfSome (lent first) (IsInputRow system.now) }
-    ensures { IfOk result (λ actors. AreUnjoined system.now rows (lent first.entry) (actor_count (links_of system.now) placement.now) actors.items) }
+    requires first { IfSome (lent first) (IsInputRow placed.now.system) }
+    ensures { IfOk result (λ actors. AreUnjoined placed.now.system rows (lent first.entry)
+        (actor_count (links_in placed.now) placed.now.placement) actors.items) }
 {
     let mut actors = Vec::new(alloc);
-    for v in 0..actors_of(system, placement) {
-        actors.push(new_actor(alloc, system, rows, first, v)?)?;
+    for v in 0..actors_of(placed) {
+        actors.push(new_actor(alloc, placed.system, rows, first, v)?)?;
     }
     Ok(actors)
 }

@@ -1,14 +1,13 @@
 //! The stations of a run, which are laid empty and joined to actors one by one.
 
 ghost use Rattle.std.specs.Prelude.{◌≡◌, ◌+◌, ◌-◌, ◌<◌, ◌≤◌, ◌++◌, [], ◌∷◌, length, take, slice_index_or, IfOk, OnOk};
-ghost use Rattle.lid_system.specs.Systems.{IsWellFormed};
-ghost use Rattle.lid_stations.specs.Placements.{links_of, station_count, Fits};
+ghost use Rattle.lid_stations.specs.Placements.{station_count};
+ghost use Rattle.lid_stations.specs.Placed.{links_in};
 ghost use Rattle.lid_clock.specs.Starts.{IsEmptyBetween, HasLaid, KeepsNew, Joins, IsNextSlot, CanJoin};
 
 use crate::actor::ClockActor;
 use crate::station::ClockStation;
-use lid_stations::{Placement, drainer, filler};
-use lid_system::System;
+use lid_stations::{Placed, drainer, filler};
 use std::alloc::{AllocError, Global};
 
 impl ClockActor {
@@ -81,31 +80,29 @@ fn lay(
 /// Lays the stations of channel c, of which the first has this number.
 fn lay_channel(
     alloc: Global,
-    system: &System,
-    placement: &Placement,
+    placed: &Placed<'_>,
     c: usize,
     station: usize,
     actors: &mut [ClockActor],
     stations: &mut Vec<ClockStation>,
 ) -> Result<(), AllocError>
-    requires system { IsWellFormed system.now }
-    requires fits { Fits system.now placement.now }
-    requires there { c < length placement.now.relays }
-    requires first { station ≡ station_count (take c placement.now.relays) }
-    requires laid { HasLaid (links_of system.now) placement.now station actors.old stations.old.items }
-    ensures laid { OnOk result (HasLaid (links_of system.now) placement.now (station + (slice_index_or placement.now.relays c 0 + 1)) actors.new stations.new.items) }
-    ensures new { OnOk result (KeepsNew system.now actors.old actors.new) }
+    requires there { c < length placed.now.placement.relays }
+    requires first { station ≡ station_count (take c placed.now.placement.relays) }
+    requires laid { HasLaid (links_in placed.now) placed.now.placement station actors.old stations.old.items }
+    ensures laid { OnOk result (HasLaid (links_in placed.now) placed.now.placement
+        (station + (slice_index_or placed.now.placement.relays c 0 + 1)) actors.new stations.new.items) }
+    ensures new { OnOk result (KeepsNew placed.now.system actors.old actors.new) }
 {
-    let first = (system.nodes.len() + (station - c)) as u32;
-    for place in 0..placement.relays.as_slice()[c] + 1 {
+    let first = (placed.system.nodes.len() + (station - c)) as u32;
+    for place in 0..placed.placement.relays.as_slice()[c] + 1 {
         let number = station + place as usize;
         stations.push(lay(
             alloc,
             actors,
             number as u32,
-            filler(system, placement, c, place, first),
-            drainer(system, placement, c, place, first),
-            placement.caps.as_slice()[number],
+            filler(placed.system, placed.placement, c, place, first),
+            drainer(placed.system, placed.placement, c, place, first),
+            placed.placement.caps.as_slice()[number],
         )?)?;
     }
     Ok(())
@@ -114,21 +111,19 @@ fn lay_channel(
 /// Lays all stations.
 pub(crate) fn lay_stations(
     alloc: Global,
-    system: &System,
-    placement: &Placement,
+    placed: &Placed<'_>,
     actors: &mut [ClockActor],
     stations: &mut Vec<ClockStation>,
 ) -> Result<(), AllocError>
-    requires system { IsWellFormed system.now }
-    requires fits { Fits system.now placement.now }
-    requires none { HasLaid (links_of system.now) placement.now 0 actors.old stations.old.items }
-    ensures laid { OnOk result (HasLaid (links_of system.now) placement.now (station_count placement.now.relays) actors.new stations.new.items) }
-    ensures new { OnOk result (KeepsNew system.now actors.old actors.new) }
+    requires none { HasLaid (links_in placed.now) placed.now.placement 0 actors.old stations.old.items }
+    ensures laid { OnOk result (HasLaid (links_in placed.now) placed.now.placement
+        (station_count placed.now.placement.relays) actors.new stations.new.items) }
+    ensures new { OnOk result (KeepsNew placed.now.system actors.old actors.new) }
 {
     let mut station = 0usize;
-    for c in 0..placement.relays.len() {
-        lay_channel(alloc, system, placement, c, station, actors, stations)?;
-        station += placement.relays.as_slice()[c] as usize + 1;
+    for c in 0..placed.placement.relays.len() {
+        lay_channel(alloc, placed, c, station, actors, stations)?;
+        station += placed.placement.relays.as_slice()[c] as usize + 1;
     }
     Ok(())
 }

@@ -15,7 +15,7 @@ use crate::readying::make_all_ready;
 use crate::rules::runs_go_by_rules;
 use crate::station::ClockStation;
 use crate::stream::ClockStream;
-use lid_stations::Placement;
+use lid_stations::{Placed, Placement};
 use lid_system::System;
 use std::alloc::{AllocError, Global};
 
@@ -64,15 +64,10 @@ impl ClockStream {
         runs_go_by_rules();
         let some = 0 < rows;
         let nodes = system.nodes.len() as u32;
-        let mut actors = new_actors(alloc, system, placement, rows, first)?;
+        let placed = Placed { system, placement };
+        let mut actors = new_actors(alloc, &placed, rows, first)?;
         let mut stations = Vec::new(alloc);
-        lay_stations(
-            alloc,
-            system,
-            placement,
-            actors.as_mut_slice(),
-            &mut stations,
-        )?;
+        lay_stations(alloc, &placed, actors.as_mut_slice(), &mut stations)?;
         make_all_ready(alloc, actors.as_mut_slice(), some)?;
         begin_all(stations.as_mut_slice(), actors.as_slice(), nodes, some);
         Ok(ClockStream {

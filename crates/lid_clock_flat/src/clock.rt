@@ -83,7 +83,8 @@ impl FlatClock {
         requires few { rows ≤ 1000000 }
         requires first { IsFirstRow system.now rows (lent first) }
         requires stalls { Ascend stalls }
-        ensures { IfOk result (λ clock. (l : Life) → StartsSo l system.now placement.now rows (lent first.entry) → IsHeldBy l stalls → RanFlat l 0 (min 1 rows) clock) }
+        ensures { IfOk result (λ clock. (l : Life) → StartsSo l system.now placement.now rows (lent first.entry) → IsHeldBy l stalls
+            → RanFlat l 0 (min 1 rows) clock) }
     {
         let run = FlatRun::start(alloc, system, placement, rows, first)?;
         Ok(FlatClock {

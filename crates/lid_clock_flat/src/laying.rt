@@ -109,7 +109,8 @@ impl FlatRun {
         rows: u64,
     ) -> Result<FlatRun, AllocError>
         requires { IsJustStarted stream count }
-        ensures { IfOk result (λ run. (l : Life) (g : ℕ) → Ran l 0 g stream → count ≡ length l.setup.system.nodes → rows ≡ length l.setup.input → g ≡ min 1 rows → FlatRan l 0 g run) }
+        ensures { IfOk result (λ run. (l : Life) (g : ℕ) → Ran l 0 g stream → count ≡ length l.setup.system.nodes → rows ≡ length l.setup.input
+            → g ≡ min 1 rows → FlatRan l 0 g run) }
     {
         runs_go_by_rules();
         let stations = lay_all(alloc, stream.stations.as_slice())?;

@@ -100,13 +100,6 @@ impl<'r> FlatRows<'r> {
         self.clock.cycle()
     }
 
-    /// How many cycles were made since the start.
-    pub fn made(&self) -> u64
-        ensures { (l : Life) (k : ℕ) → Feeds l k self.now → result ≡ k }
-    {
-        self.clock.made()
-    }
-
     /// The output row of the last cycle made, where the sink fired in it.
     pub fn last(&self) -> Option<&[bool]>
         ensures { (l : Life) (k : ℕ) → Feeds l k self.now → IsLast l k (lent result) }

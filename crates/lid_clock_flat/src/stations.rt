@@ -30,7 +30,8 @@ impl FlatStations {
         requires there { station < length self.old.all.items }
         requires apart { RingsAreApart self.old.all.items self.old.places.items }
         ensures all { self.new.all ≡ self.old.all }
-        ensures places { (x : FlatStation) → slice_get self.old.all.items station ≡ Some x → self.new.places.items ≡ set self.old.places.items (place_at x x.held) token }
+        ensures places { (x : FlatStation) → slice_get self.old.all.items station ≡ Some x
+            → self.new.places.items ≡ set self.old.places.items (place_at x x.held) token }
     {
         let place = self.all[station].free_place();
         self.places[place] = token;

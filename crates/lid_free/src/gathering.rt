@@ -44,7 +44,8 @@ pub(crate) struct Left<'r> {
 /// Gathers all ends and all actors of the workers, and notes their tallies.
 pub(crate) fn gather<'r>(boards: Boards, crew: Crew<'r>, tallies: &mut [Tally]) -> Left<'r>
     requires { (m : Setup) × (workers : ℕ) × (made : ℕ) × HasWorkedOut m workers made boards crew × (length tallies.old ≡ workers) }
-    ensures { (m : Setup) (workers made : ℕ) → HasWorkedOut m workers made boards crew.entry → AreGathered m workers made result.plain.pairs.items result.actors.items tallies.new }
+    ensures { (m : Setup) (workers made : ℕ) → HasWorkedOut m workers made boards crew.entry
+        → AreGathered m workers made result.plain.pairs.items result.actors.items tallies.new }
 {
     let Boards {
         board,

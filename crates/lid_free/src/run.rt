@@ -43,8 +43,10 @@ pub struct FreeEnd {
 
 /// Makes the sweeps after the parallel phase, and ends the run.
 fn end_run(left: Left<'_>, mut room: Room) -> FreeEnd
-    requires { (m : Setup) × (workers : ℕ) × (made : ℕ) × AreGathered m workers made left.plain.pairs.items left.actors.items room.tallies.items × (length room.fired.items ≡ length left.actors.items) × (length room.passed.items ≡ length left.plain.pairs.items) }
-    ensures { (m : Setup) (workers made : ℕ) → AreGathered m workers made left.entry.plain.pairs.items left.entry.actors.items room.tallies.items → IsEnding m workers made result }
+    requires { (m : Setup) × (workers : ℕ) × (made : ℕ) × AreGathered m workers made left.plain.pairs.items left.actors.items room.tallies.items
+        × (length room.fired.items ≡ length left.actors.items) × (length room.passed.items ≡ length left.plain.pairs.items) }
+    ensures { (m : Setup) (workers made : ℕ) → AreGathered m workers made left.entry.plain.pairs.items left.entry.actors.items room.tallies.items
+        → IsEnding m workers made result }
 {
     note_fired(left.actors.as_slice(), room.fired.as_mut_slice());
     note_passed(left.plain.pairs.as_slice(), room.passed.as_mut_slice());

@@ -37,7 +37,8 @@ pub fn join_all(board: &Board, keeper: &mut Hand, crew: Vec<Worker<'_>>, tallies
     requires none { HasNone keeper.old }
     requires many { length tallies.old ≡ length crew.items }
     ensures of { IsOf keeper.new board.now }
-    ensures joined { (owners : List ℕ) → AreShared (length crew.entry.items) owners crew.entry.items → HasJoined (length crew.entry.items) owners crew.entry.items keeper.new }
+    ensures joined { (owners : List ℕ) → AreShared (length crew.entry.items) owners crew.entry.items
+        → HasJoined (length crew.entry.items) owners crew.entry.items keeper.new }
     ensures tallies { tallies.new ≡ map (λ w. w.tally) crew.entry.items }
 {
     let mut crew = crew;

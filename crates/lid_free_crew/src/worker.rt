@@ -42,7 +42,8 @@ pub fn work<G: Gate>(worker: &mut Worker<'_>, board: &Board, rounds: u64, gate: 
     ensures gone { HaveGone board.now rounds worker.old worker.new }
     ensures tally { IsTallyOf board.now rounds worker.old worker.new }
     ensures in_order { WorksInOrder board.now rounds worker.old worker.new }
-    ensures alone { (m : Setup) (numbers : List ℕ) (st : State) → WorksAlone m numbers st board.now worker.old → MakesRounds m numbers st board.now rounds worker.new }
+    ensures alone { (m : Setup) (numbers : List ℕ) (st : State) → WorksAlone m numbers st board.now worker.old
+        → MakesRounds m numbers st board.now rounds worker.new }
 {
     for round in 0..rounds {
         gate.pass(worker.number, round);

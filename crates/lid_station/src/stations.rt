@@ -41,7 +41,8 @@ pub trait Stations {
     fn look_in(&mut self, station: u32) -> InLook
         requires { IsServed (ends self.old) (drain station) }
         ensures changed { Changes (ends self.old) (drain station) (looked_in result) (ends self.new) }
-        ensures found { (streams : ℕ → List ℕ) → (f : Facts) → stands self.old streams → ends self.old (drain station) ≡ Some f → FindsIn result f (streams station) }
+        ensures found { (streams : ℕ → List ℕ) → (f : Facts) → stands self.old streams → ends self.old (drain station) ≡ Some f
+            → FindsIn result f (streams station) }
         ensures small { HasSmallToken result }
         ensures nothing { TellsNothing result }
         ensures drained { (f : Facts) → ends self.old (drain station) ≡ Some f → HasDrained result f }
@@ -61,7 +62,8 @@ pub trait Stations {
     fn look_out(&mut self, station: u32) -> OutLook
         requires { IsServed (ends self.old) (fill station) }
         ensures changed { Changes (ends self.old) (fill station) (looked_out result) (ends self.new) }
-        ensures found { (streams : ℕ → List ℕ) → (f : Facts) → stands self.old streams → ends self.old (fill station) ≡ Some f → FindsOut result f (streams station) }
+        ensures found { (streams : ℕ → List ℕ) → (f : Facts) → stands self.old streams → ends self.old (fill station) ≡ Some f
+            → FindsOut result f (streams station) }
         ensures filled { (f : Facts) → ends self.old (fill station) ≡ Some f → HasFilled result f }
         ensures full { (f : Facts) → ends self.old (fill station) ≡ Some f → TellsFull result f }
         ensures again { IsMarked (ends self.old) (fill station) → IsRoom result }
@@ -93,7 +95,9 @@ pub trait Stations {
         ensures steps { steps self.new ≡ noted (fill station) (steps self.old) }
         ensures same { identity self.new ≡ identity self.old };
 
-    ghost next_is_admitted: { (board : Self) → (streams : ℕ → List ℕ) → (station : ℕ) → (token : ℕ) → (f : Facts) → stands board streams → ends board (fill station) ≡ Some f → slice_get (streams station) f.passed ≡ Some token → admits board station token };
+    ghost next_is_admitted: { (board : Self) → (streams : ℕ → List ℕ) → (station : ℕ) → (token : ℕ) → (f : Facts) → stands board streams
+    → ends board (fill station) ≡ Some f → slice_get (streams station) f.passed ≡ Some token → admits board station token };
 
-    ghost passed_within: { (board : Self) → (streams : ℕ → List ℕ) → (station : ℕ) → (end : ℕ) → (f : Facts) → end / 2 ≡ station → stands board streams → ends board end ≡ Some f → f.passed ≤ length (streams station) };
+    ghost passed_within: { (board : Self) → (streams : ℕ → List ℕ) → (station : ℕ) → (end : ℕ) → (f : Facts) → end / 2 ≡ station → stands board streams
+    → ends board end ≡ Some f → f.passed ≤ length (streams station) };
 }

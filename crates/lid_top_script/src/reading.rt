@@ -51,7 +51,8 @@ fn fetch_file<'a, S: Shelf>(
 ) -> Result<Vec<u8>, Stop<'a>>
     ensures ok { IfOk result (λ bytes. IsFetched (S.held shelf.old) name.now limit bytes.items) }
     ensures err { IfErr result (MissesFile name.now (S.faults shelf.old) (S.faults shelf.new)) }
-    ensures fetched { FetchesFile S.whole (S.held shelf.old name.now) name.now limit (S.fetches shelf.old) (S.fetches shelf.new) (S.faults shelf.old) (S.faults shelf.new) result }
+    ensures fetched { FetchesFile S.whole (S.held shelf.old name.now) name.now limit (S.fetches shelf.old) (S.fetches shelf.new) (S.faults shelf.old)
+        (S.faults shelf.new) result }
     ensures kept { S.held shelf.new ≡ S.held shelf.old }
     ensures grows { (q : List ℕ) → S.faults shelf.old q ≤ S.faults shelf.new q }
 {

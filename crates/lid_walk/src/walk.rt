@@ -102,7 +102,8 @@ impl<'r> Walk<'r> {
     fn turn(&mut self, actor: u32) -> u64
         requires { HasActorAtRest self.old actor }
         ensures walks { (m : Setup) (st : State) → Walks m st self.old → (st actor).position ≡ 0 → Walks m (turn (plan m) st actor) self.new }
-        ensures fired { (m : Setup) (st : State) → Walks m st self.old → (st actor).position ≡ 0 → (turn (plan m) st actor actor).fired ≡ (st actor).fired + result }
+        ensures fired { (m : Setup) (st : State) → Walks m st self.old → (st actor).position ≡ 0
+            → (turn (plan m) st actor actor).fired ≡ (st actor).fired + result }
         ensures once { result ≤ 1 }
     {
         match self.actors[actor as usize].turn(&mut self.board) {
@@ -137,7 +138,8 @@ impl<'r> Walk<'r> {
     /// Hands out the rows that the sink has given.
     pub fn into_rows(self) -> Rows
         requires { IsSetupWalk self }
-        ensures { (m : Setup) (st : State) → Walks m st self.entry → AreColumnsAtSink m (sink (plan m)) result.columns × (result.bits ≡ output_rows m (st (sink (plan m))).fired) }
+        ensures { (m : Setup) (st : State) → Walks m st self.entry → AreColumnsAtSink m (sink (plan m)) result.columns
+            × (result.bits ≡ output_rows m (st (sink (plan m))).fired) }
     {
         let sink = self.sink();
         let mut actors = self.actors;

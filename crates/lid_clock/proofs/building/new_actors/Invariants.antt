@@ -3,4 +3,4 @@ use Rattle.lid_clock.specs.Starts.{AreUnjoined}
 use Rattle.lid_clock.proofs.building.new_actors.Given as goal
 
 abbrev pub invariant-loop-v : goal.invariant-loop-v
-invariant-loop-v l = AreUnjoined l.system l.rows (lent l.first) l.v l.actors.items
+invariant-loop-v l = AreUnjoined l.placed.system l.rows (lent l.first) l.v l.actors.items

@@ -1,8 +1,7 @@
 -- The actors that are awake decide in order, and those that sleep are passed over.
-use Rattle.std.proofs.Common.{◌≡◌, ℕ, ◌+◌, ◌-◌, ◌≤◌, List, Bool, length, refl, sym, ◌∙◌, ap, subst, arith}
+use Rattle.std.proofs.Common.{◌≡◌, ℕ, ◌+◌, ◌-◌, List, Bool, length, refl, sym, ◌∙◌, ap, subst, arith}
 use Rattle.lid_clock.specs.Lives.{Life, Holds}
 use Rattle.lid_clock.specs.States.{actors_of}
-use Rattle.lid_clock_flat.specs.declared.run.FlatRun.{FlatRun}
 use Rattle.lid_clock_flat.specs.Wakings.{IsNextSet, DecidedTo, KeepsRows}
 use Rattle.lid_clock_flat.proofs.Waking.{passed, mover_number}
 use Rattle.lid_clock_flat.proofs.run.FlatRun.decide_all.Goals as goal

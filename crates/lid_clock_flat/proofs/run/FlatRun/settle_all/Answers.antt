@@ -1,6 +1,5 @@
 -- The actors that fired settle their stations in order, and the others are passed over.
-use Rattle.std.proofs.Common.{◌≡◌, ℕ, ◌+◌, ◌-◌, ◌<◌, ◌≤◌, List, Bool, length, sym, ◌∙◌, subst, arith}
-use Rattle.lid_clock_flat.specs.declared.run.FlatRun.{FlatRun}
+use Rattle.std.proofs.Common.{◌≡◌, ℕ, ◌+◌, ◌-◌, ◌<◌, List, Bool, length, sym, ◌∙◌, subst, arith}
 use Rattle.lid_clock_flat.specs.Wakings.{IsNextSet}
 use Rattle.lid_clock_flat.specs.Ends.{SettledTo, HasFired}
 use Rattle.lid_clock_flat.proofs.Waking.{mover_number}
