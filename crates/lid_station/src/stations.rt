@@ -96,8 +96,8 @@ pub trait Stations {
         ensures same { identity self.new ≡ identity self.old };
 
     ghost next_is_admitted: { (board : Self) → (streams : ℕ → List ℕ) → (station : ℕ) → (token : ℕ) → (f : Facts) → stands board streams
-    → ends board (fill station) ≡ Some f → slice_get (streams station) f.passed ≡ Some token → admits board station token };
+        → ends board (fill station) ≡ Some f → slice_get (streams station) f.passed ≡ Some token → admits board station token };
 
     ghost passed_within: { (board : Self) → (streams : ℕ → List ℕ) → (station : ℕ) → (end : ℕ) → (f : Facts) → end / 2 ≡ station → stands board streams
-    → ends board end ≡ Some f → f.passed ≤ length (streams station) };
+        → ends board end ≡ Some f → f.passed ≤ length (streams station) };
 }

@@ -92,7 +92,7 @@ loop-place-preserved c =
     let is = on s p c.args.c c.args.station c.loop-place.place c.as_slice.result.now c.placed.invariant.formed c.placed.invariant.fits there first c.as_slice.ensures c.loop-place-test.true in
     let laid = subst (λ (v : Placing). HasLaid (links_in v) v.placement (c.args.station + c.loop-place.place) c.loop-place.actors c.loop-place.stations.items) at c.loop-place.invariant.laid in
     let more = one_laid s p c.args.c c.args.station c.loop-place.place is c.filler.result c.drainer.result c.as_slice-in-loop-place.result.now c.loop-place.actors c.lay.new.actors c.loop-place.stations.items c.push.new.self.items c.in_ok-lay.field-0
-          c.filler.ensures c.drainer.ensures c.as_slice-in-loop-place.ensures laid c.in_ok-lay.ensures.joins c.in_ok-lay.ensures.empty c.in_ok-lay.ensures.slot c.in_ok-push.ensures.items in
+    c.filler.ensures c.drainer.ensures c.as_slice-in-loop-place.ensures laid c.in_ok-lay.ensures.joins c.in_ok-lay.ensures.empty c.in_ok-lay.ensures.slot c.in_ok-push.ensures.items in
     record {
       laid = subst (λ (v : Placing). HasLaid (links_in v) v.placement (c.args.station + (c.loop-place.place + 1)) c.lay.new.actors c.push.new.self.items) c.placed.view_is more;
       new = λ rows first are. keeps_new c.args.placed.now.system (c.args.station + c.loop-place.place) c.filler.result c.drainer.result c.loop-place.actors c.lay.new.actors c.in_ok-lay.ensures.joins rows first (c.loop-place.invariant.new rows first are);
