@@ -106,7 +106,8 @@ IsChange variables c words = (c.variable < variables) × (IsBitChange c words �
 
 abbrev pub AreChanges : ℕ → List Change → Words → Type 0
 AreChanges variables [] words = words ≡ []
-AreChanges variables (c ∷ cs) words = (first : Words) × (rest : Words) × (words ≡ first ++ rest) × IsChange variables c first × AreChanges variables cs rest
+AreChanges variables (c ∷ cs) words =
+    (first : Words) × (rest : Words) × (words ≡ first ++ rest) × IsChange variables c first × AreChanges variables cs rest
 
 -- `#T`
 pub record IsTime (at : ℕ) (word : List ℕ) : Type 0 where
@@ -150,7 +151,8 @@ changed values (c ∷ cs) = changed (slice_set values c.variable c.value) cs
 -- set last
 abbrev pub shown_from : ℕ → List ℕ → List Step → List Shown
 shown_from at values [] = []
-shown_from at values (step ∷ steps) = cycles_of (step.until - at) (changed values step.changes) ++ shown_from step.until (changed values step.changes) steps
+shown_from at values (step ∷ steps) =
+    cycles_of (step.until - at) (changed values step.changes) ++ shown_from step.until (changed values step.changes) steps
 
 -- the last time
 abbrev pub last_time : ℕ → List Step → ℕ
