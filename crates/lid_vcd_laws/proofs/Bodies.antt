@@ -48,7 +48,7 @@ abbrev LeadsAt : ℕ → ℕ → List ℕ → Words → Next → List ℕ → Li
 LeadsAt variables at values words to after cells = (next : Next) → AtTime variables at next → Leads (new_place variables next) values words (new_place variables to) after cells
 
 -- the values at the end
-abbrev left_by : List ℕ → List Step → List ℕ
+abbrev pub left_by : List ℕ → List Step → List ℕ
 left_by values [] = values
 left_by values (s ∷ steps) = left_by (changed values s.changes) steps
 
@@ -110,7 +110,7 @@ module _ (variables : ℕ) (few : variables ≤ 196608) where
       (new_place variables (Time 0), shown_from 0 values steps, first_time variables, refl, steps_lead 0 steps values is.rest is.are_steps)
 
 -- a dump leads from the start to its last time
-dump_leads : (stations : ℕ) (steps : List Step) (words : Words) → stations ≤ 65536 → IsDump stations steps words → (values : List ℕ) →
+pub dump_leads : (stations : ℕ) (steps : List Step) (words : Words) → stations ≤ 65536 → IsDump stations steps words → (values : List ℕ) →
     Leads start values words (new_place (3 * stations) (Time (last_time 0 steps))) (left_by values steps) (shown_from 0 values steps)
 dump_leads stations steps words few is values =
     let b = is.is_body in

@@ -260,7 +260,7 @@ module _ (q : Place) (time : is_time q.next ≡ true) where
         };
       }
 
-shown_is_dump : (bytes : List ℕ) (trace : Trace) → Wave bytes trace → IsDumpOf trace bytes
+pub shown_is_dump : (bytes : List ℕ) (trace : Trace) → Wave bytes trace → IsDumpOf trace bytes
 unfolding wave_of
 shown_is_dump bytes trace e = by (read_words 0 start (placed_words bytes)) refl e
   where
