@@ -9,10 +9,8 @@ use Rattle.lid_base.specs.Numbers.{number_below, is_below, value_below}
 use Rattle.lid_base.specs.Words.{word_at, begins_with}
 use Rattle.lid_base.proofs.Lists.{same_bytes, bytes_same}
 use Rattle.lid_cert_text.specs.Texts.{is_via_word, via_value, is_part_line, is_ratio_line, is_cycle_line, is_node_line, is_header_line}
+use Rattle.lid_base_lines.specs.Texts.{Words}
 use Rattle.lid_cert_text_laws.specs.Grammar.{Writes, WritesVia, WriteEdges, IsHeader, IsPartLine, IsRatioLine, IsCycleLine, Node, IsNodeLine}
-
-abbrev Words : Type 0
-Words = List (List ℕ)
 
 -- numbers
 pub below : (limit n : ℕ) (word : List ℕ) → Writes limit n word → is_below limit word ≡ true

@@ -18,8 +18,9 @@ use Rattle.lid_vcd.proofs.HeadRead.{only_true}
 use Rattle.lid_vcd.proofs.BodyRead.{named, AtTime, at_time, at_set, token_told}
 use Rattle.lid_vcd.proofs.WavesRead.{first_time}
 use Rattle.lid_vcd.proofs.Going.{Goes, run_goes}
-use Rattle.lid_vcd_laws.specs.Grammar.{Words, Change, IsBitChange, IsTokenChange, IsChange, AreChanges, IsTime, Step, AreSteps, IsBody, IsDump, changed, shown_from, last_time, trace_with, IsDumpOf}
+use Rattle.lid_vcd_laws.specs.Grammar.{Change, IsBitChange, IsTokenChange, IsChange, AreChanges, IsTime, Step, AreSteps, IsBody, IsDump, changed, shown_from, last_time, trace_with, IsDumpOf}
 use Rattle.lid_vcd_laws.proofs.Leading.{Leads, leads_none, leads_then, word_of, goes_by}
+use Rattle.lid_base_lines.specs.Texts.{Words}
 use Rattle.lid_vcd_laws.proofs.Heads.{notes_pass, head_passes}
 
 -- the first word of a change

@@ -17,11 +17,12 @@ use Rattle.lid_vcd_form.specs.Shows.{values_after, trace_at, trace_of, wave_of}
 use Rattle.lid_vcd.specs.Laws.{place_after}
 use Rattle.lid_vcd.proofs.WrittenWords.{IsWord, on_line, spaced, spaced_read, line_after, both_read}
 use Rattle.lid_vcd.proofs.Alive.{words_go_on}
-use Rattle.lid_vcd_laws.specs.Grammar.{Words, Step, IsDump, last_time, shown_from, IsDumpOf}
-use Rattle.lid_vcd_laws.specs.Laws.{Begin, words_in, last_line, IsFirstOff, EndEarly, RefusalsAreFirst}
+use Rattle.lid_vcd_laws.specs.Grammar.{Step, IsDump, last_time, shown_from, IsDumpOf}
+use Rattle.lid_vcd_laws.specs.Laws.{IsBeginning, words_in, last_line, IsFirstOff, EndEarly, RefusalsAreFirst}
 use Rattle.lid_vcd_laws.proofs.Leading.{Leads, word_of}
 use Rattle.lid_vcd_laws.proofs.Bodies.{left_by, dump_leads}
 use Rattle.lid_vcd_laws.proofs.Parsing.{Chain}
+use Rattle.lid_base_lines.specs.Texts.{Words}
 use Rattle.lid_vcd_laws.proofs.Found.{shown_is_dump}
 
 -- a text's words have bytes, and none that separates words
@@ -73,11 +74,11 @@ unplaced : (n : ℕ) (words : Words) → map word_of (map (on_line n) words) ≡
 unplaced n [] = refl
 unplaced n (w ∷ ws) = ap (λ (xs : Words). w ∷ xs) (unplaced n ws)
 
-begin_from : (words : Words) (p : Place) → AllByRecursion IsWord words → Chain start words p → Begin words
+begin_from : (words : Words) (p : Place) → AllByRecursion IsWord words → Chain start words p → IsBeginning words
 unfolding placed_words
 begin_from words p all chain = by (words_go_on (spaced words) p (ap (place_after start) (spaced_read 1 words all) ∙ place_by 1 words start p chain))
   where
-    by : (more : List ℕ) × (t : Trace) × (wave_of (spaced words ++ 32 ∷ more) ≡ Ok t) → Begin words
+    by : (more : List ℕ) × (t : Trace) × (wave_of (spaced words ++ 32 ∷ more) ≡ Ok t) → IsBeginning words
     by w =
         let d : IsDumpOf w.1 (spaced words ++ 32 ∷ w.0) = shown_is_dump (spaced words ++ 32 ∷ w.0) w.1 w.2 in
         let after : Words = map word_of (words_on (line_after 1 (spaced words)) [] w.0) in
@@ -137,7 +138,7 @@ module _ (placed : List (ℕ × List ℕ)) (all : AllByRecursion IsWord (map wor
       words : AllByRecursion IsWord (map word_of o.before)
       words = (all_parts IsWord (map word_of o.before) (map word_of (o.word ∷ o.after)) (subst (AllByRecursion IsWord) (ap (map word_of) o.are ∙ map-append word_of o.before (o.word ∷ o.after)) all)).0
 
-      off : Begin (words_in (o.before ++ o.word ∷ [])) → ⊥
+      off : IsBeginning (words_in (o.before ++ o.word ∷ [])) → ⊥
       off b =
           let same : words_in (o.before ++ o.word ∷ []) ++ b.more ≡ map word_of o.before ++ (o.word.1 ∷ b.more)
           = ap (λ (xs : Words). xs ++ b.more) (map-append word_of o.before (o.word ∷ [])) ∙ append_assoc (map word_of o.before) (o.word.1 ∷ []) b.more in

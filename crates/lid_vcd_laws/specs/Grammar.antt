@@ -6,10 +6,8 @@ use Rattle.lid_base.specs.declared.runs.Shown.{Shown}
 use Rattle.lid_texts_runs.specs.declared.trace.Trace.{Trace}
 use Rattle.lid_vcd_form.specs.Ids.{id_of, width_of, ending_of, is_token, token_in_bits}
 use Rattle.lid_vcd_form.specs.Words.{placed_words}
+use Rattle.lid_base_lines.specs.Texts.{Words}
 use Rattle.lid_vcd_form.specs.Shows.{cycles_of}
-
-abbrev pub Words : Type 0
-Words = List (List ℕ)
 
 -- no word of them is `$end`
 abbrev pub HaveNoEnd : Words → Type 0

@@ -3,14 +3,15 @@ use Rattle.std.specs.Prelude.{◌≡◌, ℕ, ◌≤◌, ◌↔◌, ◌⊎◌, L
 use Rattle.lid_texts_runs.specs.declared.trace.Trace.{Trace}
 use Rattle.lid_vcd_form.specs.Words.{placed_words}
 use Rattle.lid_vcd_form.specs.Shows.{wave_of, Wave}
-use Rattle.lid_vcd_laws.specs.Grammar.{Words, Step, IsDump, IsDumpOf}
+use Rattle.lid_base_lines.specs.Texts.{Words}
+use Rattle.lid_vcd_laws.specs.Grammar.{Step, IsDump, IsDumpOf}
 
 -- a text shows a trace exactly where it is a dump of it
 abbrev pub DumpsShowTraces : Type 0
 DumpsShowTraces = (bytes : List ℕ) (trace : Trace) → IsDumpOf trace bytes ↔ Wave bytes trace
 
 -- some dump's words begin with these
-pub record Begin (words : Words) : Type 0 where
+pub record IsBeginning (words : Words) : Type 0 where
   pub stations : ℕ
   pub steps : List Step
   pub more : Words
@@ -32,13 +33,13 @@ pub record IsFirstOff (placed : List (ℕ × List ℕ)) (line : ℕ) : Type 0 wh
   pub word : ℕ × List ℕ
   pub after : List (ℕ × List ℕ)
   pub are : placed ≡ before ++ word ∷ after
-  pub begin : Begin (words_in before)
-  pub off : Begin (words_in (before ++ word ∷ [])) → ⊥
+  pub begin : IsBeginning (words_in before)
+  pub off : IsBeginning (words_in (before ++ word ∷ [])) → ⊥
   pub told : line ≡ word.0
 
 -- the words begin a dump, and end too early
 pub record EndEarly (placed : List (ℕ × List ℕ)) (line : ℕ) : Type 0 where
-  pub begin : Begin (words_in placed)
+  pub begin : IsBeginning (words_in placed)
   pub early : (stations : ℕ) (steps : List Step) → stations ≤ 65536 → IsDump stations steps (words_in placed) → ⊥
   pub told : line ≡ last_line 0 placed
 
