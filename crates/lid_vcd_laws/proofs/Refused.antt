@@ -18,7 +18,7 @@ use Rattle.lid_vcd.specs.Laws.{place_after}
 use Rattle.lid_vcd.proofs.WrittenWords.{IsWord, on_line, spaced, spaced_read, line_after, both_read}
 use Rattle.lid_vcd.proofs.Alive.{words_go_on}
 use Rattle.lid_vcd_laws.specs.Grammar.{Step, IsDump, last_time, shown_from, IsDumpOf}
-use Rattle.lid_vcd_laws.specs.Laws.{IsBeginning, words_in, last_line, IsFirstOff, EndEarly, RefusalsAreFirst}
+use Rattle.lid_vcd_laws.specs.Laws.{IsBeginning, plain_words, last_line, IsFirstOff, EndEarly, RefusalsAreFirst}
 use Rattle.lid_vcd_laws.proofs.Leading.{Leads, word_of}
 use Rattle.lid_vcd_laws.proofs.Bodies.{left_by, dump_leads}
 use Rattle.lid_vcd_laws.proofs.Parsing.{Chain}
@@ -138,9 +138,9 @@ module _ (placed : List (ℕ × List ℕ)) (all : AllByRecursion IsWord (map wor
       words : AllByRecursion IsWord (map word_of o.before)
       words = (all_parts IsWord (map word_of o.before) (map word_of (o.word ∷ o.after)) (subst (AllByRecursion IsWord) (ap (map word_of) o.are ∙ map-append word_of o.before (o.word ∷ o.after)) all)).0
 
-      off : IsBeginning (words_in (o.before ++ o.word ∷ [])) → ⊥
+      off : IsBeginning (plain_words (o.before ++ o.word ∷ [])) → ⊥
       off b =
-          let same : words_in (o.before ++ o.word ∷ []) ++ b.more ≡ map word_of o.before ++ (o.word.1 ∷ b.more)
+          let same : plain_words (o.before ++ o.word ∷ []) ++ b.more ≡ map word_of o.before ++ (o.word.1 ∷ b.more)
           = ap (λ (xs : Words). xs ++ b.more) (map-append word_of o.before (o.word ∷ [])) ∙ append_assoc (map word_of o.before) (o.word.1 ∷ []) b.more in
           let chain = dump_chain b.stations b.steps (map word_of o.before ++ (o.word.1 ∷ b.more)) b.few (subst (IsDump b.stations b.steps) same b.is) in
           let parts = chain_parts (map word_of o.before) (o.word.1 ∷ b.more) start (new_place (3 * b.stations) (Time (last_time 0 b.steps))) chain in
@@ -152,7 +152,7 @@ module _ (placed : List (ℕ × List ℕ)) (all : AllByRecursion IsWord (map wor
   end_early : IsShort start 0 placed line → EndEarly placed line
   end_early s = record { begin = begin_from (map word_of placed) s.end all s.leads; early = early; told = s.told }
     where
-      early : (stations : ℕ) (steps : List Step) → stations ≤ 65536 → IsDump stations steps (words_in placed) → ⊥
+      early : (stations : ℕ) (steps : List Step) → stations ≤ 65536 → IsDump stations steps (plain_words placed) → ⊥
       early stations steps few is =
           let chain = dump_chain stations steps (map word_of placed) few is in
           let there : s.end ≡ new_place (3 * stations) (Time (last_time 0 steps)) = chain_end (map word_of placed) start s.end (new_place (3 * stations) (Time (last_time 0 steps))) s.leads chain in

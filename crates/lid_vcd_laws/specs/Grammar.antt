@@ -141,16 +141,16 @@ pub record IsDump (stations : ℕ) (steps : List Step) (words : Words) : Type 0 
   pub is_body : AreNotesAnd (IsBody (3 * stations) steps) body
 
 -- the values once these changes were made
-abbrev pub changed : List ℕ → List Change → List ℕ
-changed values [] = values
-changed values (c ∷ cs) = changed (slice_set values c.variable c.value) cs
+abbrev pub with_changes : List ℕ → List Change → List ℕ
+with_changes values [] = values
+with_changes values (c ∷ cs) = with_changes (slice_set values c.variable c.value) cs
 
 -- what is shown from a time on: with each step the cycles up to the next time, in which the variables have the values that were
 -- set last
 abbrev pub shown_from : ℕ → List ℕ → List Step → List Shown
 shown_from at values [] = []
 shown_from at values (step ∷ steps) =
-    cycles_of (step.until - at) (changed values step.changes) ++ shown_from step.until (changed values step.changes) steps
+    cycles_of (step.until - at) (with_changes values step.changes) ++ shown_from step.until (with_changes values step.changes) steps
 
 -- the last time
 abbrev pub last_time : ℕ → List Step → ℕ

@@ -19,8 +19,8 @@ pub record IsBeginning (words : Words) : Type 0 where
   pub is : IsDump stations steps (words ++ more)
 
 -- the words of some lines, without the numbers of these
-abbrev pub words_in : List (ℕ × List ℕ) → Words
-words_in placed = map (λ w. w.1) placed
+abbrev pub plain_words : List (ℕ × List ℕ) → Words
+plain_words placed = map (λ w. w.1) placed
 
 -- the line of the last word, or 0 where there is none
 abbrev pub last_line : ℕ → List (ℕ × List ℕ) → ℕ
@@ -33,14 +33,14 @@ pub record IsFirstOff (placed : List (ℕ × List ℕ)) (line : ℕ) : Type 0 wh
   pub word : ℕ × List ℕ
   pub after : List (ℕ × List ℕ)
   pub are : placed ≡ before ++ word ∷ after
-  pub begin : IsBeginning (words_in before)
-  pub off : IsBeginning (words_in (before ++ word ∷ [])) → ⊥
+  pub begin : IsBeginning (plain_words before)
+  pub off : IsBeginning (plain_words (before ++ word ∷ [])) → ⊥
   pub told : line ≡ word.0
 
 -- the words begin a dump, and end too early
 pub record EndEarly (placed : List (ℕ × List ℕ)) (line : ℕ) : Type 0 where
-  pub begin : IsBeginning (words_in placed)
-  pub early : (stations : ℕ) (steps : List Step) → stations ≤ 65536 → IsDump stations steps (words_in placed) → ⊥
+  pub begin : IsBeginning (plain_words placed)
+  pub early : (stations : ℕ) (steps : List Step) → stations ≤ 65536 → IsDump stations steps (plain_words placed) → ⊥
   pub told : line ≡ last_line 0 placed
 
 -- the line that a refusal tells is that of the first word by which no dump goes on
