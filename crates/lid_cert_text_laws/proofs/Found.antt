@@ -11,7 +11,7 @@ use Rattle.lid_base_lines.specs.Limited.{limited_fault}
 use Rattle.lid_cert.specs.declared.cert.Part.{Part}
 use Rattle.lid_cert.specs.declared.cert.Cert.{Cert}
 use Rattle.lid_cert_text.specs.Texts.{at_line, fault_in, cert_fault, cert_of, parts_of}
-use Rattle.lid_cert_text_laws.specs.Grammar.{IsPartLine, IsRatioLine, Node, IsNodeLine, AreNodeLines, part_with, IsSection, AreSections, AreLinesOf, IsTextOf}
+use Rattle.lid_cert_text_laws.specs.Grammar.{IsPartLine, IsRatioLine, Entry, IsNodeLine, AreNodeLines, told_part, IsSection, AreSections, AreLinesOf, IsTextOf}
 use Rattle.lid_cert_text_laws.specs.Laws.{TextsAreRead}
 use Rattle.lid_cert_text_laws.proofs.Stages.{Stage, Header, Between, Ratio, Cycle, Nodes, is_due, due_after, line_at_fault, fault_is}
 use Rattle.lid_cert_text_laws.proofs.Shapes.{HasPartLine, header_found, part_found, part_value, ratio_found, HasCycleLine, cycle_found, node_found}
@@ -27,7 +27,7 @@ goes_on stage last l ls clear = by (is_due stage l.words) refl clear
 
 -- the lines of so many transitions, and what comes after them
 record HasNodes (left : ℕ) (ls : List Line) : Type 0 where
-  nodes : List Node
+  nodes : List Entry
   lines : List Line
   rest : List Line
   last : ℕ
@@ -42,7 +42,7 @@ nodes_found (l ∷ ls) left last some clear =
     let g = goes_on (Nodes left) last l ls clear in
     by (node_found l g.0) (nat_lt 1 left) refl g.1 (λ n h c. nodes_found ls n l.number h c)
   where
-    by : (node : Node) × IsNodeLine node l → (b : Bool) → nat_lt 1 left ≡ b → line_at_fault (cond b (Nodes (left - 1)) Between) l.number ls ≡ None
+    by : (node : Entry) × IsNodeLine node l → (b : Bool) → nat_lt 1 left ≡ b → line_at_fault (cond b (Nodes (left - 1)) Between) l.number ls ≡ None
         → ((n : ℕ) → 1 ≤ n → line_at_fault (Nodes n) l.number ls ≡ None → HasNodes n ls) → HasNodes left (l ∷ ls)
     by node true e h later =
         let more : 1 < left = ltb-true 1 left e in
@@ -80,7 +80,7 @@ section_found l ls last clear =
     made count n is m k rest ratio edges nodes =
         let many : count.count ≡ length nodes.nodes = (sym (part_value count.count l count.is) ∙ is) ∙ sym nodes.many in
         record {
-          part = part_with ratio.0 ratio.1 edges.edges nodes.nodes;
+          part = told_part ratio.0 ratio.1 edges.edges nodes.nodes;
           section = l ∷ m ∷ k ∷ nodes.lines;
           rest = nodes.rest;
           last = nodes.last;

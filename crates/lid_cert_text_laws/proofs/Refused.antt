@@ -11,7 +11,7 @@ use Rattle.lid_cert_text.specs.declared.fault.CertFault.{CertFault}
 use Rattle.lid_cert_text.specs.declared.fault.CertFault.TheVariants.{Word}
 use Rattle.lid_cert_text.specs.Texts.{at_line, fault_in, cert_fault}
 use Rattle.lid_cert_text_laws.specs.Grammar.{AreLinesOf}
-use Rattle.lid_cert_text_laws.specs.Laws.{Begin, last_number, IsFirstOff, EndEarly, RefusalsAreFirst}
+use Rattle.lid_cert_text_laws.specs.Laws.{IsBeginning, last_number, IsFirstOff, EndEarly, RefusalsAreFirst}
 use Rattle.lid_cert_text_laws.proofs.Stages.{Stage, Header, Between, Ratio, Cycle, Nodes, is_due, due_after, may_end, line_at_fault, fault_is}
 use Rattle.lid_cert_text_laws.proofs.Shapes.{part_found, part_value}
 use Rattle.lid_cert_text_laws.proofs.Sections.{lines_clear}
@@ -148,7 +148,7 @@ ends (Cycle left) more = of_cycle left more
 ends (Nodes left) more = of_nodes left more
 
 -- so lines of the forms that are due begin a certificate's
-begin : (ls : List Line) (end : Stage) → Reaches Header ls end → Begin ls
+begin : (ls : List Line) (end : Stage) → Reaches Header ls end → IsBeginning ls
 begin ls end reaches =
     let rest = ends end (more_reached ls Header end tt reaches) in
     let found = lines_found (ls ++ rest.lines) 0 (fault_past ls rest.lines Header end 0 reaches ∙ rest.clear (last_number 0 ls)) in
@@ -158,7 +158,7 @@ module _ (ls : List Line) (number : ℕ) (h : line_at_fault Header 0 ls ≡ Some
   first_off : IsOff Header ls number → IsFirstOff ls number
   first_off o = record { before = o.before; line = o.line; after = o.after; are = o.are; begin = begin o.before o.end o.reaches; off = off; told = o.told }
     where
-      off : Begin (o.before ++ o.line ∷ []) → ⊥
+      off : IsBeginning (o.before ++ o.line ∷ []) → ⊥
       off b =
           let are : AreLinesOf b.cert (o.before ++ o.line ∷ b.more) = subst (AreLinesOf b.cert) (append_assoc o.before (o.line ∷ []) b.more) b.are in
           let none : line_at_fault Header 0 (o.before ++ o.line ∷ b.more) ≡ None = lines_clear b.cert (o.before ++ o.line ∷ b.more) are 0 in

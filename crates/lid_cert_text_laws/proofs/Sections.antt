@@ -8,7 +8,7 @@ use Rattle.lid_base.specs.Words.{word_at, begins_with}
 use Rattle.lid_cert.specs.declared.cert.Part.{Part}
 use Rattle.lid_cert.specs.declared.cert.Cert.{Cert}
 use Rattle.lid_cert_text.specs.Texts.{via_value, is_part_line, is_ratio_line, is_cycle_line, is_node_line, is_header_line, values_at, node_lines, part_of, parts_of}
-use Rattle.lid_cert_text_laws.specs.Grammar.{IsPartLine, IsRatioLine, IsCycleLine, Node, AreNodeLines, IsSection, AreSections, AreLinesOf}
+use Rattle.lid_cert_text_laws.specs.Grammar.{IsPartLine, IsRatioLine, IsCycleLine, Entry, AreNodeLines, IsSection, AreSections, AreLinesOf}
 use Rattle.lid_cert_text_laws.proofs.Stages.{Stage, Header, Between, Nodes, line_at_fault}
 use Rattle.lid_cert_text_laws.proofs.Shapes.{IsTaken, header_due, part_due, part_value, ratio_due, ratio_p, ratio_q, cycle_due, cycle_values, node_due, node_begins, node_taken}
 
@@ -16,7 +16,7 @@ use Rattle.lid_cert_text_laws.proofs.Shapes.{IsTaken, header_due, part_due, part
 abbrev pub AreClear : Stage → List Line → Type 0
 AreClear stage ls = (last : ℕ) → line_at_fault stage last ls ≡ None
 
-nodes_clear : (nodes : List Node) (ls rest : List Line) (left : ℕ) → left ≡ length nodes → 1 ≤ length nodes → AreNodeLines nodes ls → AreClear Between rest → AreClear (Nodes left) (ls ++ rest)
+nodes_clear : (nodes : List Entry) (ls rest : List Line) (left : ℕ) → left ≡ length nodes → 1 ≤ length nodes → AreNodeLines nodes ls → AreClear Between rest → AreClear (Nodes left) (ls ++ rest)
 nodes_clear [] ls rest left count some are after last = absurd (omega arith)
 nodes_clear (node ∷ []) ls rest left count some are after last =
     subst (λ (xs : List Line). line_at_fault (Nodes left) last (xs ++ rest) ≡ None) (sym are.2)
@@ -55,14 +55,14 @@ no_nodes (part ∷ parts) ls are =
     subst (λ (xs : List Line). node_lines xs ≡ []) (sym (are.2 ∙ ap (λ (xs : List Line). xs ++ are.1) s.are))
     (cond-false (begins_with (codes "node") s.count_line.words) _ _ (part_begins (length s.nodes) s.count_line s.counts).1)
 
-nodes_end : (nodes : List Node) (ls rest : List Line) → AreNodeLines nodes ls → node_lines rest ≡ [] → node_lines (ls ++ rest) ≡ ls
+nodes_end : (nodes : List Entry) (ls rest : List Line) → AreNodeLines nodes ls → node_lines rest ≡ [] → node_lines (ls ++ rest) ≡ ls
 nodes_end [] ls rest are none = ap (λ (xs : List Line). node_lines (xs ++ rest)) are ∙ none ∙ sym are
 nodes_end (node ∷ nodes) ls rest are none =
     subst (λ (xs : List Line). node_lines (xs ++ rest) ≡ xs) (sym are.2)
     (cond-true (begins_with (codes "node") are.0.words) _ _ (node_begins node are.0 are.3).0 ∙ ap (λ (xs : List Line). are.0 ∷ xs) (nodes_end nodes are.1 rest are.4 none))
 
 -- a column of the lines of transitions
-column : {X : Type 0} (take : List (List ℕ) → X) (told : Node → X) → ((node : Node) (words : List (List ℕ)) → IsTaken node words → take words ≡ told node) → (nodes : List Node) (ls : List Line) → AreNodeLines nodes ls → map (λ l. take l.words) ls ≡ map told nodes
+column : {X : Type 0} (take : List (List ℕ) → X) (told : Entry → X) → ((node : Entry) (words : List (List ℕ)) → IsTaken node words → take words ≡ told node) → (nodes : List Entry) (ls : List Line) → AreNodeLines nodes ls → map (λ l. take l.words) ls ≡ map told nodes
 column take told each [] ls are = ap (map (λ l. take l.words)) are
 column {X} take told each (node ∷ nodes) ls are =
     ap (map (λ l. take l.words)) are.2
@@ -87,7 +87,7 @@ module _ (part : Part) (section rest : List Line) (s : IsSection part section) (
       cc
 
 -- no part begins in the lines of transitions
-nodes_pass : (nodes : List Node) (ls rest : List Line) → AreNodeLines nodes ls → parts_of (ls ++ rest) ≡ parts_of rest
+nodes_pass : (nodes : List Entry) (ls rest : List Line) → AreNodeLines nodes ls → parts_of (ls ++ rest) ≡ parts_of rest
 nodes_pass [] ls rest are = ap (λ (xs : List Line). parts_of (xs ++ rest)) are
 nodes_pass (node ∷ nodes) ls rest are =
     subst (λ (xs : List Line). parts_of (xs ++ rest) ≡ parts_of rest) (sym are.2)

@@ -8,10 +8,8 @@ use Rattle.lid_base.specs.Numbers.{value_below}
 use Rattle.lid_base.specs.Words.{word_at}
 use Rattle.lid_base.proofs.Numbers.{value_back, value_below_less}
 use Rattle.lid_cert_text.specs.Texts.{is_header_line, is_part_line, is_ratio_line, is_cycle_line, is_node_line, at_line, fault_in}
+use Rattle.lid_base_lines.specs.Texts.{Words}
 use Rattle.lid_cert_text.specs.Texts as reader
-
-abbrev pub Words : Type 0
-Words = List (List ℕ)
 
 -- which line is due, and in a part how many lines of transitions
 pub data Stage : Type 0 where

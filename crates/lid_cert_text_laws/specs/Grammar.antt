@@ -7,18 +7,18 @@ use Rattle.lid_base_lines.specs.Limited.{limited_fault}
 use Rattle.lid_cert.specs.declared.cert.Part.{Part}
 use Rattle.lid_cert.specs.declared.cert.Cert.{Cert}
 
--- a word writes a number below a limit, in decimal digits
-abbrev pub Writes : ℕ → ℕ → List ℕ → Type 0
-Writes limit n word = number_below limit word ≡ Some n
+-- a word spells a number below a limit, in decimal digits
+abbrev pub Spells : ℕ → ℕ → List ℕ → Type 0
+Spells limit n word = number_below limit word ≡ Some n
 
--- a word writes an edge, or `-` that there is none
-abbrev pub WritesVia : Option ℕ → List ℕ → Type 0
-WritesVia None word = word ≡ codes "-"
-WritesVia (Some k) word = Writes (2 ^ 32) k word
+-- a word spells an edge, or `-` that there is none
+abbrev pub SpellsVia : Option ℕ → List ℕ → Type 0
+SpellsVia None word = word ≡ codes "-"
+SpellsVia (Some k) word = Spells (2 ^ 32) k word
 
--- words write edges, one each
-abbrev pub WriteEdges : List ℕ → List (List ℕ) → Type 0
-WriteEdges edges words = map (number_below (2 ^ 32)) words ≡ map Some edges
+-- words spell edges, one each
+abbrev pub SpellEdges : List ℕ → List (List ℕ) → Type 0
+SpellEdges edges words = map (number_below (2 ^ 32)) words ≡ map Some edges
 
 -- the first line: `lid-cert 1`
 abbrev pub IsHeader : Line → Type 0
@@ -28,24 +28,24 @@ IsHeader l = l.words ≡ codes "lid-cert" ∷ codes "1" ∷ []
 pub record IsPartLine (count : ℕ) (l : Line) : Type 0 where
   pub word : List ℕ
   pub are : l.words ≡ codes "part" ∷ word ∷ []
-  pub writes : Writes (2 ^ 32) count word
+  pub spells : Spells (2 ^ 32) count word
 
 -- a line `ratio P Q`
 pub record IsRatioLine (p q : ℕ) (l : Line) : Type 0 where
   pub first : List ℕ
   pub second : List ℕ
   pub are : l.words ≡ codes "ratio" ∷ first ∷ second ∷ []
-  pub writes_p : Writes (2 ^ 31) p first
-  pub writes_q : Writes (2 ^ 31) q second
+  pub spells_p : Spells (2 ^ 31) p first
+  pub spells_q : Spells (2 ^ 31) q second
 
 -- a line `cycle E1 .. EL`
 pub record IsCycleLine (edges : List ℕ) (l : Line) : Type 0 where
   pub words : List (List ℕ)
   pub are : l.words ≡ codes "cycle" ∷ words
-  pub write : WriteEdges edges words
+  pub spell : SpellEdges edges words
 
 -- what is said of one transition
-pub record Node : Type 0 where
+pub record Entry : Type 0 where
   pub number : ℕ
   pub lag : ℕ
   pub lead : ℕ
@@ -53,27 +53,27 @@ pub record Node : Type 0 where
   pub via : Option ℕ
 
 -- a line `node V LAG LEAD DEPTH VIA`
-pub record IsNodeLine (node : Node) (l : Line) : Type 0 where
+pub record IsNodeLine (node : Entry) (l : Line) : Type 0 where
   pub number : List ℕ
   pub lag : List ℕ
   pub lead : List ℕ
   pub depth : List ℕ
   pub via : List ℕ
   pub are : l.words ≡ codes "node" ∷ number ∷ lag ∷ lead ∷ depth ∷ via ∷ []
-  pub writes_number : Writes (2 ^ 32) node.number number
-  pub writes_lag : Writes (2 ^ 62) node.lag lag
-  pub writes_lead : Writes (2 ^ 62) node.lead lead
-  pub writes_depth : Writes (2 ^ 32) node.depth depth
-  pub writes_via : WritesVia node.via via
+  pub spells_number : Spells (2 ^ 32) node.number number
+  pub spells_lag : Spells (2 ^ 62) node.lag lag
+  pub spells_lead : Spells (2 ^ 62) node.lead lead
+  pub spells_depth : Spells (2 ^ 32) node.depth depth
+  pub spells_via : SpellsVia node.via via
 
 -- a line for each transition
-abbrev pub AreNodeLines : List Node → List Line → Type 0
+abbrev pub AreNodeLines : List Entry → List Line → Type 0
 AreNodeLines [] ls = ls ≡ []
 AreNodeLines (node ∷ nodes) ls = (l : Line) × (rest : List Line) × (ls ≡ l ∷ rest) × IsNodeLine node l × AreNodeLines nodes rest
 
 -- a part of which this is said
-abbrev pub part_with : ℕ → ℕ → List ℕ → List Node → Part
-part_with p q edges nodes = record {
+abbrev pub told_part : ℕ → ℕ → List ℕ → List Entry → Part
+told_part p q edges nodes = record {
   nodes = map (λ n. n.number) nodes;
   p = p;
   q = q;
@@ -95,8 +95,8 @@ pub record IsSection (part : Part) (ls : List Line) : Type 0 where
   pub p : ℕ
   pub q : ℕ
   pub edges : List ℕ
-  pub nodes : List Node
-  pub part_is : part ≡ part_with p q edges nodes
+  pub nodes : List Entry
+  pub part_is : part ≡ told_part p q edges nodes
   pub counts : IsPartLine (length nodes) count_line
   pub some_nodes : 1 ≤ length nodes
   pub rates : IsRatioLine p q ratio_line

@@ -13,7 +13,7 @@ abbrev pub TextsAreRead : Type 0
 TextsAreRead = (bytes : List ℕ) (cert : Cert) → IsTextOf cert bytes ↔ ((cert_fault bytes ≡ None) × (cert_of bytes ≡ cert))
 
 -- some certificate's lines begin with these
-pub record Begin (ls : List Line) : Type 0 where
+pub record IsBeginning (ls : List Line) : Type 0 where
   pub cert : Cert
   pub more : List Line
   pub are : AreLinesOf cert (ls ++ more)
@@ -29,13 +29,13 @@ pub record IsFirstOff (ls : List Line) (number : ℕ) : Type 0 where
   pub line : Line
   pub after : List Line
   pub are : ls ≡ before ++ line ∷ after
-  pub begin : Begin before
-  pub off : Begin (before ++ line ∷ []) → ⊥
+  pub begin : IsBeginning before
+  pub off : IsBeginning (before ++ line ∷ []) → ⊥
   pub told : number ≡ line.number
 
 -- the lines begin a certificate's, and end too early
 pub record EndEarly (ls : List Line) (number : ℕ) : Type 0 where
-  pub begin : Begin ls
+  pub begin : IsBeginning ls
   pub early : (cert : Cert) → AreLinesOf cert ls → ⊥
   pub told : number ≡ last_number 0 ls
 

@@ -18,8 +18,9 @@ use Rattle.lid_vcd.proofs.HeadRead.{only_true}
 use Rattle.lid_vcd.proofs.BodyRead.{named, AtTime, at_time, at_set, token_told}
 use Rattle.lid_vcd.proofs.WavesRead.{first_time}
 use Rattle.lid_vcd.proofs.Going.{Goes, run_goes}
-use Rattle.lid_vcd_laws.specs.Grammar.{Words, Change, IsBitChange, IsTokenChange, IsChange, AreChanges, IsTime, Step, AreSteps, IsBody, IsDump, changed, shown_from, last_time, trace_with, IsDumpOf}
+use Rattle.lid_vcd_laws.specs.Grammar.{Change, IsBitChange, IsTokenChange, IsChange, AreChanges, IsTime, Step, AreSteps, IsBody, IsDump, with_changes, shown_from, last_time, trace_with, IsDumpOf}
 use Rattle.lid_vcd_laws.proofs.Leading.{Leads, leads_none, leads_then, word_of, goes_by}
+use Rattle.lid_base_lines.specs.Texts.{Words}
 use Rattle.lid_vcd_laws.proofs.Heads.{notes_pass, head_passes}
 
 -- the first word of a change
@@ -48,9 +49,9 @@ abbrev LeadsAt : ℕ → ℕ → List ℕ → Words → Next → List ℕ → Li
 LeadsAt variables at values words to after cells = (next : Next) → AtTime variables at next → Leads (new_place variables next) values words (new_place variables to) after cells
 
 -- the values at the end
-abbrev left_by : List ℕ → List Step → List ℕ
+abbrev pub left_by : List ℕ → List Step → List ℕ
 left_by values [] = values
-left_by values (s ∷ steps) = left_by (changed values s.changes) steps
+left_by values (s ∷ steps) = left_by (with_changes values s.changes) steps
 
 number_small : (word : List ℕ) (n : ℕ) → number_below 4294967296 word ≡ Some n → n < 4294967296
 number_small word n writes =
@@ -78,18 +79,18 @@ module _ (variables : ℕ) (few : variables ≤ 196608) where
 
   -- changes, and then the next time
   changes_lead : (at : ℕ) (cs : List Change) (values : List ℕ) (words : Words) (time : List ℕ) (until : ℕ) → at < 4294967295 → AreChanges variables cs words → at < until → IsTime until time
-      → LeadsAt variables at values (words ++ time ∷ []) (Time until) (changed values cs) (cycles_of (until - at) (changed values cs))
+      → LeadsAt variables at values (words ++ time ∷ []) (Time until) (with_changes values cs) (cycles_of (until - at) (with_changes values cs))
   changes_lead at [] values words time until early are after is next here =
       let e : step (new_place variables next) (35 ∷ is.digits) ≡ Some (new_place variables (Time until)) = here.steps (35 ∷ is.digits) ∙ time_marked variables at until is.digits after is.writes in
       let same : words ++ time ∷ [] ≡ (35 ∷ is.digits) ∷ [] = ap (λ (ws : Words). ws ++ time ∷ []) are ∙ ap (λ (w : List ℕ). w ∷ []) is.are in
       subst (λ (ws : Words). Leads (new_place variables next) values ws (new_place variables (Time until)) values (cycles_of (until - at) values)) (sym same)
       (new_place variables (Time until), [], e, ap (λ (t : ℕ). cycles_of (until - t) values) (sym here.time) ∙ sym (append-nil _), (refl, refl, refl))
   changes_lead at (c ∷ cs) values words time until early are after is next here =
-      let rest : Leads (new_place variables (Set at c.variable c.value)) (set values c.variable c.value) (are.1 ++ time ∷ []) (new_place variables (Time until)) (changed values (c ∷ cs)) (cycles_of (until - at) (changed values (c ∷ cs)))
+      let rest : Leads (new_place variables (Set at c.variable c.value)) (set values c.variable c.value) (are.1 ++ time ∷ []) (new_place variables (Time until)) (with_changes values (c ∷ cs)) (cycles_of (until - at) (with_changes values (c ∷ cs)))
       = changes_lead at cs (set values c.variable c.value) are.1 time until early are.4 after is (Set at c.variable c.value) (at_set variables at c.variable c.value) in
       let same : words ++ time ∷ [] ≡ are.0 ++ (are.1 ++ time ∷ []) = ap (λ (ws : Words). ws ++ time ∷ []) are.2 ∙ append_assoc are.0 are.1 (time ∷ []) in
-      subst (λ (ws : Words). Leads (new_place variables next) values ws (new_place variables (Time until)) (changed values (c ∷ cs)) (cycles_of (until - at) (changed values (c ∷ cs)))) (sym same)
-      (leads_then are.0 (are.1 ++ time ∷ []) (new_place variables next) (new_place variables (Set at c.variable c.value)) (new_place variables (Time until)) values (set values c.variable c.value) (changed values (c ∷ cs)) [] (cycles_of (until - at) (changed values (c ∷ cs)))
+      subst (λ (ws : Words). Leads (new_place variables next) values ws (new_place variables (Time until)) (with_changes values (c ∷ cs)) (cycles_of (until - at) (with_changes values (c ∷ cs)))) (sym same)
+      (leads_then are.0 (are.1 ++ time ∷ []) (new_place variables next) (new_place variables (Set at c.variable c.value)) (new_place variables (Time until)) values (set values c.variable c.value) (with_changes values (c ∷ cs)) [] (cycles_of (until - at) (with_changes values (c ∷ cs)))
       (change_leads at c values are.0 early are.3 next here) rest)
 
   steps_lead : (at : ℕ) (steps : List Step) (values : List ℕ) (words : Words) → AreSteps variables at steps words → Leads (new_place variables (Time at)) values words (new_place variables (Time (last_time at steps))) (left_by values steps) (shown_from at values steps)
@@ -99,10 +100,10 @@ module _ (variables : ℕ) (few : variables ≤ 196608) where
       let small : s.until < 4294967296 = number_small time.digits s.until time.writes in
       let after : at < s.until = are.5 in
       let first = changes_lead at s.changes values are.0 are.1 s.until (omega arith) are.4 after time (Time at) (at_time variables at) in
-      let rest = steps_lead s.until steps (changed values s.changes) are.2 are.7 in
+      let rest = steps_lead s.until steps (with_changes values s.changes) are.2 are.7 in
       let same : words ≡ (are.0 ++ are.1 ∷ []) ++ are.2 = are.3 ∙ sym (append_assoc are.0 (are.1 ∷ []) are.2) in
-      subst (λ (ws : Words). Leads (new_place variables (Time at)) values ws (new_place variables (Time (last_time s.until steps))) (left_by (changed values s.changes) steps) (shown_from at values (s ∷ steps))) (sym same)
-      (leads_then (are.0 ++ are.1 ∷ []) are.2 (new_place variables (Time at)) (new_place variables (Time s.until)) (new_place variables (Time (last_time s.until steps))) values (changed values s.changes) (left_by (changed values s.changes) steps) (cycles_of (s.until - at) (changed values s.changes)) (shown_from s.until (changed values s.changes) steps) first rest)
+      subst (λ (ws : Words). Leads (new_place variables (Time at)) values ws (new_place variables (Time (last_time s.until steps))) (left_by (with_changes values s.changes) steps) (shown_from at values (s ∷ steps))) (sym same)
+      (leads_then (are.0 ++ are.1 ∷ []) are.2 (new_place variables (Time at)) (new_place variables (Time s.until)) (new_place variables (Time (last_time s.until steps))) values (with_changes values s.changes) (left_by (with_changes values s.changes) steps) (cycles_of (s.until - at) (with_changes values s.changes)) (shown_from s.until (with_changes values s.changes) steps) first rest)
 
   body_leads : (steps : List Step) (values : List ℕ) (words : Words) → IsBody variables steps words → Leads (new_place variables (Before Body)) values words (new_place variables (Time (last_time 0 steps))) (left_by values steps) (shown_from 0 values steps)
   body_leads steps values words is =
@@ -110,7 +111,7 @@ module _ (variables : ℕ) (few : variables ≤ 196608) where
       (new_place variables (Time 0), shown_from 0 values steps, first_time variables, refl, steps_lead 0 steps values is.rest is.are_steps)
 
 -- a dump leads from the start to its last time
-dump_leads : (stations : ℕ) (steps : List Step) (words : Words) → stations ≤ 65536 → IsDump stations steps words → (values : List ℕ) →
+pub dump_leads : (stations : ℕ) (steps : List Step) (words : Words) → stations ≤ 65536 → IsDump stations steps words → (values : List ℕ) →
     Leads start values words (new_place (3 * stations) (Time (last_time 0 steps))) (left_by values steps) (shown_from 0 values steps)
 dump_leads stations steps words few is values =
     let b = is.is_body in

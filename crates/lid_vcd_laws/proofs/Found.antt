@@ -14,10 +14,11 @@ use Rattle.lid_vcd_form.specs.Form.{new_place, start, step, begins, in_body, lat
 use Rattle.lid_vcd_form.specs.Words.{placed_words}
 use Rattle.lid_vcd_form.specs.Shows.{trace_of, wave_of, Wave}
 use Rattle.lid_vcd.proofs.BodyRead.{AtTime, at_time, at_set}
-use Rattle.lid_vcd_laws.specs.Grammar.{Words, AreNotesAnd, Change, IsChange, IsTime, Step, AreSteps, IsBody, IsDump, AreDeclarations, trace_with, IsDumpOf}
+use Rattle.lid_vcd_laws.specs.Grammar.{AreNotesAnd, Change, IsChange, IsTime, Step, AreSteps, IsBody, IsDump, AreDeclarations, trace_with, IsDumpOf}
 use Rattle.lid_vcd_laws.specs.Laws.{DumpsShowTraces}
 use Rattle.lid_vcd_laws.proofs.Leading.{word_of}
 use Rattle.lid_vcd_laws.proofs.Bodies.{shows_trace}
+use Rattle.lid_base_lines.specs.Texts.{Words}
 use Rattle.lid_vcd_laws.proofs.Parsing.{Chain, chain_read, only_is, HasBegun, begun_from, timescale_found, scope_found, declared_from, definitions_found}
 
 -- the variable that a word names
@@ -260,7 +261,7 @@ module _ (q : Place) (time : is_time q.next ≡ true) where
         };
       }
 
-shown_is_dump : (bytes : List ℕ) (trace : Trace) → Wave bytes trace → IsDumpOf trace bytes
+pub shown_is_dump : (bytes : List ℕ) (trace : Trace) → Wave bytes trace → IsDumpOf trace bytes
 unfolding wave_of
 shown_is_dump bytes trace e = by (read_words 0 start (placed_words bytes)) refl e
   where

@@ -13,7 +13,8 @@ use Rattle.lid_vcd_form.specs.declared.form.Place.{Place}
 use Rattle.lid_vcd_form.specs.Ids.{id_of, width_of, ending_of}
 use Rattle.lid_vcd_form.specs.Form.{new_place, start, step, is_end, is_note, is_name, is_stem, is_number, begins, in_scope, in_variable}
 use Rattle.lid_vcd.proofs.HeadRead.{only_true, same_word, word_0, word_1, word_2, word_3, word_5, closing_0, closing_1, closing_2, closing_3}
-use Rattle.lid_vcd_laws.specs.Grammar.{Words, HaveNoEnd, BeginsNote, IsNote, AreNotes, AreNotesAnd, IsTimescale, IsScope, IsDeclaration, AreDeclarations, IsUpscope, IsDefinitions, IsHead}
+use Rattle.lid_vcd_laws.specs.Grammar.{HaveNoEnd, BeginsNote, IsNote, AreNotes, AreNotesAnd, IsTimescale, IsScope, IsDeclaration, AreDeclarations, IsUpscope, IsDefinitions, IsHead}
+use Rattle.lid_base_lines.specs.Texts.{Words}
 use Rattle.lid_vcd_laws.proofs.Leading.{Passes, IsQuiet, passes_none, passes_then, word_passes, passes_same}
 
 before_quiet : (section : Section) → IsQuiet (Before section)

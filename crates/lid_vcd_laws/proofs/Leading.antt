@@ -6,8 +6,8 @@ use Rattle.lid_vcd_form.specs.declared.form.Next.{Next}
 use Rattle.lid_vcd_form.specs.declared.form.Place.{Place}
 use Rattle.lid_vcd_form.specs.Form.{step}
 use Rattle.lid_vcd_form.specs.Shows.{time_of, cycles_until, values_after}
+use Rattle.lid_base_lines.specs.Texts.{Words}
 use Rattle.lid_vcd.proofs.Going.{Goes, nothing, word_then}
-use Rattle.lid_vcd_laws.specs.Grammar.{Words}
 
 -- words lead from a place to another, set values and show cells
 abbrev pub Leads : Place → List ℕ → Words → Place → List ℕ → List Shown → Type 0

@@ -3,3 +3,4 @@ pub mod Heads
 pub mod Bodies
 pub mod Parsing
 pub mod Found
+pub mod Refused

@@ -12,7 +12,8 @@ use Rattle.lid_vcd_form.specs.declared.form.Next.TheVariants.{Before, Note, Insi
 use Rattle.lid_vcd_form.specs.declared.form.Place.{Place}
 use Rattle.lid_vcd_form.specs.Ids.{id_of, width_of, ending_of}
 use Rattle.lid_vcd_form.specs.Form.{new_place, start, step, is_end, is_note, is_name, is_stem, is_number, only, begins, begins_variable, in_scope, in_variable, read_words, going_on, is_time}
-use Rattle.lid_vcd_laws.specs.Grammar.{Words, HaveNoEnd, BeginsNote, AreNotes, AreNotesAnd, IsTimescale, IsScope, IsDeclaration, AreDeclarations, IsUpscope, IsDefinitions}
+use Rattle.lid_vcd_laws.specs.Grammar.{HaveNoEnd, BeginsNote, AreNotes, AreNotesAnd, IsTimescale, IsScope, IsDeclaration, AreDeclarations, IsUpscope, IsDefinitions}
+use Rattle.lid_base_lines.specs.Texts.{Words}
 use Rattle.lid_vcd_laws.proofs.Leading.{word_of}
 
 -- words lead from one place to another

@@ -6,10 +6,8 @@ use Rattle.lid_base.specs.declared.runs.Shown.{Shown}
 use Rattle.lid_texts_runs.specs.declared.trace.Trace.{Trace}
 use Rattle.lid_vcd_form.specs.Ids.{id_of, width_of, ending_of, is_token, token_in_bits}
 use Rattle.lid_vcd_form.specs.Words.{placed_words}
+use Rattle.lid_base_lines.specs.Texts.{Words}
 use Rattle.lid_vcd_form.specs.Shows.{cycles_of}
-
-abbrev pub Words : Type 0
-Words = List (List ℕ)
 
 -- no word of them is `$end`
 abbrev pub HaveNoEnd : Words → Type 0
@@ -106,7 +104,8 @@ IsChange variables c words = (c.variable < variables) × (IsBitChange c words �
 
 abbrev pub AreChanges : ℕ → List Change → Words → Type 0
 AreChanges variables [] words = words ≡ []
-AreChanges variables (c ∷ cs) words = (first : Words) × (rest : Words) × (words ≡ first ++ rest) × IsChange variables c first × AreChanges variables cs rest
+AreChanges variables (c ∷ cs) words =
+    (first : Words) × (rest : Words) × (words ≡ first ++ rest) × IsChange variables c first × AreChanges variables cs rest
 
 -- `#T`
 pub record IsTime (at : ℕ) (word : List ℕ) : Type 0 where
@@ -142,15 +141,16 @@ pub record IsDump (stations : ℕ) (steps : List Step) (words : Words) : Type 0 
   pub is_body : AreNotesAnd (IsBody (3 * stations) steps) body
 
 -- the values once these changes were made
-abbrev pub changed : List ℕ → List Change → List ℕ
-changed values [] = values
-changed values (c ∷ cs) = changed (slice_set values c.variable c.value) cs
+abbrev pub with_changes : List ℕ → List Change → List ℕ
+with_changes values [] = values
+with_changes values (c ∷ cs) = with_changes (slice_set values c.variable c.value) cs
 
 -- what is shown from a time on: with each step the cycles up to the next time, in which the variables have the values that were
 -- set last
 abbrev pub shown_from : ℕ → List ℕ → List Step → List Shown
 shown_from at values [] = []
-shown_from at values (step ∷ steps) = cycles_of (step.until - at) (changed values step.changes) ++ shown_from step.until (changed values step.changes) steps
+shown_from at values (step ∷ steps) =
+    cycles_of (step.until - at) (with_changes values step.changes) ++ shown_from step.until (with_changes values step.changes) steps
 
 -- the last time
 abbrev pub last_time : ℕ → List Step → ℕ
