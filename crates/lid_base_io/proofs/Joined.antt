@@ -39,9 +39,9 @@ more_joined old now new text piece rest so next = (
   so.0 ++ next.0,
   both_came old now new so.0 next.0 so.1 next.1,
   ap (λ (xs : List ℕ). xs ++ rest) (concat-append so.0 next.0)
-  ∙ append_assoc (concat so.0) (concat next.0) rest
-  ∙ ap (λ (xs : List ℕ). concat so.0 ++ (xs ++ rest)) next.2
-  ∙ so.2,
+      ∙ append_assoc (concat so.0) (concat next.0) rest
+      ∙ ap (λ (xs : List ℕ). concat so.0 ++ (xs ++ rest)) next.2
+      ∙ so.2,
 )
 
 -- a first part of the next piece came, and no more
