@@ -1,6 +1,7 @@
 -- Calls that are told, one after the other.
-use Rattle.std.proofs.Common.{◌≡◌, List, [], ◌++◌, length, take, Option, Some, None, refl, sym, ◌∙◌, ap, subst, append_assoc, append-nil}
+use Rattle.std.proofs.Common.{◌≡◌, ℕ, List, [], ◌++◌, length, take, drop, Option, Some, None, refl, sym, ◌∙◌, ap, subst, append_assoc, append-nil}
 use Rattle.std.proofs.Math.Seq.{take-append_seam}
+use Rattle.std.proofs.lemmas.List.{take-append-drop}
 use Rattle.lid_base.specs.Outside.{Came, CamePrefix}
 use Rattle.lid_base_io.specs.Calls.{CameAs}
 
@@ -20,6 +21,19 @@ begins_with {A} first rest all e = sym (subst (λ (xs : List A). take (length fi
 
 pub part_came : {A : Type 0} (old new : Option (List A)) (first rest all : List A) → Came old new first → first ++ rest ≡ all → CamePrefix old new all
 part_came {A} old new first rest all came e = (length first, subst (λ (xs : List A). Came old new xs) (begins_with first rest all e) came)
+
+-- these calls came, and then some first of those, which the rest follows
+pub first_and_some_came : {A : Type 0} (old now new : Option (List A)) (first second rest all : List A) → Came old now first → CamePrefix now new second → first ++ (second ++ rest) ≡ all → CamePrefix old new all
+first_and_some_came {A} old now new first second rest all a b e =
+    let k : ℕ = b.0 in
+    part_came old new (first ++ take k second) (drop k second ++ rest) all (both_came old now new first (take k second) a b.1)
+    (append_assoc first (take k second) (drop k second ++ rest)
+    ∙ ap (λ (xs : List A). first ++ xs) (sym (append_assoc (take k second) (drop k second) rest) ∙ ap (λ (xs : List A). xs ++ rest) (take-append-drop k second))
+    ∙ e)
+
+-- some first of these calls came, which the rest follows
+pub some_of_first_came : {A : Type 0} (old new : Option (List A)) (first rest all : List A) → CamePrefix old new first → first ++ rest ≡ all → CamePrefix old new all
+some_of_first_came {A} old new first rest all a e = first_and_some_came old old new [] first rest all (none_came old) a e
 
 -- calls so far and those that are left make all: some of these came
 pub more_came : {A : Type 0} (old now new : Option (List A)) (all left rest calls : List A) → left ≡ calls ++ rest → CameAs old now (λ before. before ++ left ≡ all) → Came now new calls → CameAs old new (λ before. before ++ rest ≡ all)

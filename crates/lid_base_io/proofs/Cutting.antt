@@ -1,8 +1,9 @@
 -- The pieces of a text, cut by cut.
-use Rattle.std.proofs.Common.{◌≡◌, ◌==◌, ℕ, zero, suc, ◌+◌, ◌-◌, ◌*◌, ◌/◌, ◌<◌, ◌≤◌, min, true, false, List, [], ◌∷◌, ◌++◌, length, take, drop, refl, sym, ◌∙◌, ap, append_assoc, append-nil, arith}
+use Rattle.std.proofs.Common.{◌≡◌, ◌==◌, ℕ, zero, suc, ◌+◌, ◌*◌, ◌/◌, ◌<◌, ◌≤◌, min, true, false, List, [], ◌∷◌, ◌++◌, length, take, drop, refl, sym, ◌∙◌, ap, append_assoc, append-nil, arith}
+use Rattle.std.proofs.Math.Seq.{take-add}
 use Rattle.std.proofs.lemmas.List.{length-drop, length-append, take_min, drop_min, take_all, take-append-le, drop-append-le, drop-drop}
 use Rattle.lid_base_io.specs.Calls.{pieces_in, cuts, pieces_of, full_pieces}
-use Rattle.lid_base_io.specs.Transfer.{after_pieces}
+use Rattle.lid_base_io.specs.Transfer.{piece_bytes, whole_pieces, after_pieces}
 
 -- the first piece of what is left, and those after it
 pub pieces_next : (left : List ℕ) (n : ℕ) → 0 < length left → n ≡ min 65536 (length left) → pieces_of left ≡ take n left ∷ pieces_of (drop n left)
@@ -50,6 +51,50 @@ full_split first second =
     let rest : List ℕ = drop (k * 65536) first ++ second in
     let count : length (first ++ second) / 65536 ≡ k + length rest / 65536 = omega (arith, length-append first second, length-append (drop (k * 65536) first) second, length-drop (k * 65536) first) in
     ap (λ (n : ℕ). cuts n (first ++ second)) count ∙ both_cut (length rest / 65536) first second k refl
+
+-- the pieces of two texts: the full ones of the first, and those of what they leave of it with the second
+pub pieces_split : (first second : List ℕ) → pieces_of (first ++ second) ≡ full_pieces first ++ pieces_of (after_pieces first ++ second)
+unfolding after_pieces
+pieces_split first second =
+    let k : ℕ = length first / 65536 in
+    let rest : List ℕ = drop (k * 65536) first ++ second in
+    let count : pieces_in (length (first ++ second)) ≡ k + pieces_in (length rest) = omega (arith, length-append first second, length-append (drop (k * 65536) first) second, length-drop (k * 65536) first) in
+    ap (λ (n : ℕ). cuts n (first ++ second)) count ∙ both_cut (pieces_in (length rest)) first second k refl
+
+-- the pieces of a text: the full ones, and that of what they leave of it, where it is some
+pub pieces_end : (text : List ℕ) → pieces_of text ≡ full_pieces text ++ pieces_of (after_pieces text)
+pieces_end text =
+    ap (λ (xs : List ℕ). pieces_of xs) (sym (append-nil text)) ∙ pieces_split text [] ∙ ap (λ (xs : List ℕ). full_pieces text ++ pieces_of xs) (append-nil (after_pieces text))
+
+-- the whole pieces of two texts, and what they leave: those of the first, and those of what they leave of it with the
+-- second
+module _ (first second : List ℕ) where
+  abbrev k : ℕ
+  k = length first / 65536
+
+  abbrev later : List ℕ
+  later = drop (k * 65536) first ++ second
+
+  bytes_split : piece_bytes (length (first ++ second)) ≡ k * 65536 + piece_bytes (length later)
+  bytes_split = omega (arith, length-append first second, length-append (drop (k * 65536) first) second, length-drop (k * 65536) first)
+
+  later_is : drop (k * 65536) (first ++ second) ≡ later
+  later_is = drop-append-le (k * 65536) first second (omega arith)
+
+  pub after_split : after_pieces (first ++ second) ≡ after_pieces (after_pieces first ++ second)
+  unfolding after_pieces
+  after_split =
+      ap (λ (n : ℕ). drop n (first ++ second)) bytes_split
+      ∙ sym (drop-drop (piece_bytes (length later)) (k * 65536) (first ++ second))
+      ∙ ap (λ (xs : List ℕ). drop (piece_bytes (length later)) xs) later_is
+
+  pub whole_split : whole_pieces (first ++ second) ≡ whole_pieces first ++ whole_pieces (after_pieces first ++ second)
+  unfolding whole_pieces after_pieces
+  whole_split =
+      ap (λ (n : ℕ). take n (first ++ second)) bytes_split
+      ∙ take-add (k * 65536) (piece_bytes (length later)) (first ++ second)
+      ∙ ap (λ (xs : List ℕ). xs ++ take (piece_bytes (length later)) (drop (k * 65536) (first ++ second))) (take-append-le (k * 65536) first second (omega arith))
+      ∙ ap (λ (xs : List ℕ). take (k * 65536) first ++ take (piece_bytes (length later)) xs) later_is
 
 -- fewer bytes than a piece have no full pieces
 pub none_full : (text : List ℕ) → length text < 65536 → full_pieces text ≡ []

@@ -1,5 +1,6 @@
 pub mod Came
 pub mod Cutting
+pub mod Joined
 pub mod Going
 pub mod Fetches
 pub mod Passing

@@ -16,7 +16,7 @@ pub record IsPassing (before now : Option (List ℕ)) (total held left : List �
   pub size : length pieces ≡ count * 65536
   pub whole : pieces ++ (held ++ left) ≡ total
 
-nothing_added : (before : Option (List ℕ)) → Appended before before []
+pub nothing_added : (before : Option (List ℕ)) → Appended before before []
 nothing_added None = tt
 nothing_added (Some b) = ap Some (sym (append-nil b))
 
@@ -27,7 +27,7 @@ whole_size : (bytes : List ℕ) → length (whole_pieces bytes) ≡ length bytes
 unfolding whole_pieces
 whole_size bytes = length-take (piece_bytes (length bytes)) bytes ∙ (let le = div-mul-le_self (length bytes) 65536 in omega arith)
 
-whole_and_after : (bytes : List ℕ) → whole_pieces bytes ++ after_pieces bytes ≡ bytes
+pub whole_and_after : (bytes : List ℕ) → whole_pieces bytes ++ after_pieces bytes ≡ bytes
 unfolding whole_pieces after_pieces
 whole_and_after bytes = take-append-drop (piece_bytes (length bytes)) bytes
 

@@ -1,5 +1,6 @@
 -- Which fetches and which writes a call makes.
 use Rattle.std.specs.Prelude.{◌≡◌, ℕ, zero, suc, ◌+◌, ◌-◌, ◌/◌, ◌≤◌, ◌<◌, min, nat_le, Bool, true, if◌then◌else◌, List, [], ◌∷◌, ◌++◌, length, take, drop, map, Option, IfSome, ⊤}
+use Rattle.std.specs.List.{concat}
 use Rattle.lid_base.specs.declared.outside.Fetch.{Fetch}
 use Rattle.lid_base.specs.Outside.{Came}
 
@@ -65,6 +66,14 @@ pub record IsFetchingPart (whole : Bool) (held : Option (List ℕ)) (name : List
 -- calls of which this holds came
 abbrev pub CameAs : {A : Type 0} → Option (List A) → Option (List A) → (List A → Type 0) → Type 0
 CameAs {A} old new Are = (calls : List A) × Came old new calls × Are calls
+
+-- pieces came that, one after the other, make this text
+abbrev pub CameJoined : Option (List (List ℕ)) → Option (List (List ℕ)) → List ℕ → Type 0
+CameJoined old new text = CameAs old new (λ pieces. concat pieces ≡ text)
+
+-- pieces came that, one after the other, make some first part of this text
+abbrev pub CameJoinedPrefix : Option (List (List ℕ)) → Option (List (List ℕ)) → List ℕ → Type 0
+CameJoinedPrefix old new text = CameAs old new (λ pieces. (k : ℕ) × (concat pieces ≡ take k text))
 
 -- before each fetch of a loop, where `at` bytes are there: the fetches so far, and what is said of them
 -- with those that are left

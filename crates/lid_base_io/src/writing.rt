@@ -2,7 +2,7 @@
 
 ghost use Rattle.std.specs.Prelude.{◌≡◌, ◌≤◌, OnOk, OnErr};
 ghost use Rattle.lid_base.specs.Outside.{Rose, Appended, AppendedPrefix, Came, CamePrefix};
-ghost use Rattle.lid_base_io.specs.Calls.{pieces_of};
+ghost use Rattle.lid_base_io.specs.Calls.{pieces_of, CameJoined, CameJoinedPrefix};
 
 use lid_base::{Sink, SinkFailed};
 
@@ -32,4 +32,18 @@ pub fn write_all<O: Sink>(out: &mut O, text: &[u8]) -> Result<(), SinkFailed>
         left = rest;
     }
     Ok(())
+}
+
+/// Writes a part of a line, as [`write_all`] does. The contracts of lines say of their pieces what they
+/// make, one after the other.
+pub(crate) fn tell_text<E: Sink>(err: &mut E, text: &[u8]) -> Result<(), SinkFailed>
+    ensures ok { OnOk result (Appended (E.written err.old) (E.written err.new) text.now) }
+    ensures err { OnErr result (AppendedPrefix (E.written err.old) (E.written err.new) text.now) }
+    ensures pieces { OnOk result (CameJoined (E.pieces err.old) (E.pieces err.new) text.now) }
+    ensures begun { OnErr result (CameJoinedPrefix (E.pieces err.old) (E.pieces err.new) text.now) }
+    ensures failed { OnErr result (Rose (E.faults err.old) (E.faults err.new)) }
+    ensures still { OnOk result (E.faults err.new ≡ E.faults err.old) }
+    ensures grows { E.faults err.old ≤ E.faults err.new }
+{
+    write_all(err, text)
 }

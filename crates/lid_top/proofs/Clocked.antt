@@ -8,11 +8,11 @@ use Rattle.lid_top_script.specs.Causes.{IsStoppedJob}
 use Rattle.lid_top_script.specs.Statuses.{Leaves, writes_early}
 use Rattle.lid_top_script.specs.Early.{RunsEarly}
 
-module _ {O : Type 0} {held : List ℕ → Option (List ℕ)} {before after : List ℕ → ℕ} {written : O → Option (List ℕ)} {writes : O → ℕ} {out out_after : O} {result : Result (Unit {0}) JobEnd} where
+module _ {O : Type 0} {held : List ℕ → Option (List ℕ)} {before after : List ℕ → ℕ} {written : O → Option (List ℕ)} {pieces : O → Option (List (List ℕ))} {writes : O → ℕ} {out out_after : O} {result : Result (Unit {0}) JobEnd} where
   -- the script of the words is that of the job
   pub job_ran : {job : Job} {net vec first second : List ℕ} {stations third stalls : Option (List ℕ)} {workers : ℕ} {trace : Option ℕ} {root fourth : Option (List ℕ)} → job ≡ Clock net vec stations stalls workers trace root
-      → first ≡ net → second ≡ vec → third ≡ stations → fourth ≡ root → RunsEarly held (clock_script first second third stalls trace fourth) before after written writes out out_after result
-      → RunsEarly held (script_of job) before after written writes out out_after result
+      → first ≡ net → second ≡ vec → third ≡ stations → fourth ≡ root → RunsEarly held (clock_script first second third stalls trace fourth) before after written pieces writes out out_after result
+      → RunsEarly held (script_of job) before after written pieces writes out out_after result
   job_ran {job = job} {net = net} {vec = vec} {first = first} {second = second} {stations = stations} {third = third} {stalls = stalls} {workers = workers} {trace = trace} {root = root} {fourth = fourth} is a b c d ran =
       let asked : job ≡ Clock first second third stalls workers trace fourth =
       is
@@ -20,9 +20,9 @@ module _ {O : Type 0} {held : List ℕ → Option (List ℕ)} {before after : Li
       ∙ ap (λ x. Clock first x stations stalls workers trace root) (sym b)
       ∙ ap (λ x. Clock first second x stalls workers trace root) (sym c)
       ∙ ap (λ x. Clock first second third stalls workers trace x) (sym d) in
-      subst (λ (j : Job). RunsEarly held (script_of j) before after written writes out out_after result) (sym asked) ran
+      subst (λ (j : Job). RunsEarly held (script_of j) before after written pieces writes out out_after result) (sym asked) ran
 
   -- `clock` writes early
   pub job_left : {job : Job} {net vec : List ℕ} {stations stalls : Option (List ℕ)} {workers : ℕ} {trace : Option ℕ} {root : Option (List ℕ)} → job ≡ Clock net vec stations stalls workers trace root
-      → RunsEarly held (script_of job) before after written writes out out_after result → IfErr result (λ end. IsStoppedJob end → Leaves (writes_early job) held (script_of job) written out out_after)
-  job_left {job = job} is ran = subst (λ b. IfErr result (λ end. IsStoppedJob end → Leaves b held (script_of job) written out out_after)) (ap writes_early (sym is)) ran.left
+      → RunsEarly held (script_of job) before after written pieces writes out out_after result → IfErr result (λ end. IsStoppedJob end → Leaves (writes_early job) held (script_of job) written pieces out out_after)
+  job_left {job = job} is ran = subst (λ b. IfErr result (λ end. IsStoppedJob end → Leaves b held (script_of job) written pieces out out_after)) (ap writes_early (sym is)) ran.left

@@ -54,13 +54,13 @@ denied_told (Stopped Memory) e = absurd (omega (arith, e))
 denied_told (Stopped Denied) e = refl
 denied_told Unwritten e = absurd (omega (arith, e))
 
-module _ {S O E : Type 0} (shelf_whole : Bool) (held : S → List ℕ → Option (List ℕ)) (fetches : S → Option (List Fetch)) (reads : S → List ℕ → ℕ) (written : O → Option (List ℕ)) (writes : O → ℕ) (said : E → Option (List ℕ)) (errs : E → ℕ) where
+module _ {S O E : Type 0} (shelf_whole : Bool) (held : S → List ℕ → Option (List ℕ)) (fetches : S → Option (List Fetch)) (reads : S → List ℕ → ℕ) (written : O → Option (List ℕ)) (pieces : O → Option (List (List ℕ))) (writes : O → ℕ) (said : E → Option (List ℕ)) (parts : E → Option (List (List ℕ))) (errs : E → ℕ) where
   -- the fetches of a job that does not write early
   abbrev Fetched : Job → S → S → ℕ → Type 0
   Fetched job s t status = writes_early job ≡ false → FetchesJob shelf_whole (held s) (script_of job) (fetches s) (fetches t) (reads s) (reads t) status
 
   -- memory was wanting before the words were read
-  pub run_unread : (asked : Option Job) (s : S) (o : O) (e f : E) → Says said errs e f memory_line → Run asked shelf_whole held fetches reads s s written writes o o said errs e f 5
+  pub run_unread : (asked : Option Job) (s : S) (o : O) (e f : E) → Says said parts errs e f memory_line → Run asked shelf_whole held fetches reads s s written pieces writes o o said parts errs e f 5
   run_unread asked s o e f says = record {
     most = omega arith;
     usage = λ two. absurd (omega (arith, two));
@@ -74,11 +74,11 @@ module _ {S O E : Type 0} (shelf_whole : Bool) (held : S → List ℕ → Option
     says_denied = λ six. absurd (omega (arith, six));
   }
     where
-      leaves : (early : Bool) (job : Job) → Leaves early (held s) (script_of job) written o o
+      leaves : (early : Bool) (job : Job) → Leaves early (held s) (script_of job) written pieces o o
       leaves false job = refl
       leaves true job = inl refl
 
-      by : (a : Option Job) → IfSome a (λ job. JobRun job shelf_whole held fetches reads s s written writes o o (Says said errs e f) 5)
+      by : (a : Option Job) → IfSome a (λ job. JobRun job shelf_whole held fetches reads s s written pieces writes o o (Says said parts errs e f) 5)
       by None = tt
       by (Some job) = record {
         done = λ zero. absurd (omega (arith, zero));
@@ -96,7 +96,7 @@ module _ {S O E : Type 0} (shelf_whole : Bool) (held : S → List ℕ → Option
       }
 
   -- the output of the job is whole
-  pub run_of_whole : (job : Job) (s t : S) (o p : O) (e : E) → Writes (held s) (script_of job) (written o) (written p) → Fetched job s t 0 → held t ≡ held s → Run (Some job) shelf_whole held fetches reads s t written writes o p said errs e e 0
+  pub run_of_whole : (job : Job) (s t : S) (o p : O) (e : E) → Writes (held s) (script_of job) written pieces o p → Fetched job s t 0 → held t ≡ held s → Run (Some job) shelf_whole held fetches reads s t written pieces writes o p said parts errs e e 0
   run_of_whole job s t o p e w went kept = record {
     most = omega arith;
     usage = λ two. absurd (omega (arith, two));
@@ -122,9 +122,9 @@ module _ {S O E : Type 0} (shelf_whole : Bool) (held : S → List ℕ → Option
 
   -- what a run shows whose output is not whole
   module _ (job : Job) (s t : S) (o p : O) (e f : E) where
-    job_stopped : (end : JobEnd) → IsJobEnd (held s) (script_of job) (reads s) (reads t) (Rose (writes o) (writes p) × WritesPrefix (held s) (script_of job) (written o) (written p)) end
-        → (IsStoppedJob end → Leaves (writes_early job) (held s) (script_of job) written o p) → (IsRefusedJob end → TellsAll (held s) (script_of job) → p ≡ o)
-        → Fetched job s t (end_status end) → Says said errs e f (end_line end) → JobRun job shelf_whole held fetches reads s t written writes o p (Says said errs e f) (end_status end)
+    job_stopped : (end : JobEnd) → IsJobEnd (held s) (script_of job) (reads s) (reads t) (Rose (writes o) (writes p) × WritesPrefix (held s) (script_of job) written pieces o p) end
+        → (IsStoppedJob end → Leaves (writes_early job) (held s) (script_of job) written pieces o p) → (IsRefusedJob end → TellsAll (held s) (script_of job) → p ≡ o)
+        → Fetched job s t (end_status end) → Says said parts errs e f (end_line end) → JobRun job shelf_whole held fetches reads s t written pieces writes o p (Says said parts errs e f) (end_status end)
     job_stopped (Stopped (Refused refusal)) cause left unwritten went says = record {
       done = λ zero. absurd (omega (arith, zero));
       refused = λ one. record { line = refusal_line refusal; ends = cause; said = says };
@@ -181,9 +181,9 @@ module _ {S O E : Type 0} (shelf_whole : Bool) (held : S → List ℕ → Option
       fetched = went;
     }
 
-    pub run_of_end : (end : JobEnd) → IsJobEnd (held s) (script_of job) (reads s) (reads t) (Rose (writes o) (writes p) × WritesPrefix (held s) (script_of job) (written o) (written p)) end
-        → (IsStoppedJob end → Leaves (writes_early job) (held s) (script_of job) written o p) → (IsRefusedJob end → TellsAll (held s) (script_of job) → p ≡ o)
-        → Fetched job s t (end_status end) → held t ≡ held s → Says said errs e f (end_line end) → Run (Some job) shelf_whole held fetches reads s t written writes o p said errs e f (end_status end)
+    pub run_of_end : (end : JobEnd) → IsJobEnd (held s) (script_of job) (reads s) (reads t) (Rose (writes o) (writes p) × WritesPrefix (held s) (script_of job) written pieces o p) end
+        → (IsStoppedJob end → Leaves (writes_early job) (held s) (script_of job) written pieces o p) → (IsRefusedJob end → TellsAll (held s) (script_of job) → p ≡ o)
+        → Fetched job s t (end_status end) → held t ≡ held s → Says said parts errs e f (end_line end) → Run (Some job) shelf_whole held fetches reads s t written pieces writes o p said parts errs e f (end_status end)
     run_of_end end cause left unwritten went kept says = record {
       most = (end_statuses end).most;
       usage = λ two. absurd ((end_statuses end).job two);
@@ -192,19 +192,19 @@ module _ {S O E : Type 0} (shelf_whole : Bool) (held : S → List ℕ → Option
       kept = kept;
       quiet = λ zero. absurd (let some = (end_statuses end).some in omega (arith, some, zero));
       says_usage = λ two. absurd ((end_statuses end).job two);
-      says_write = λ four. subst (Says said errs e f) (write_told end four) says;
-      says_memory = λ five. subst (Says said errs e f) (memory_told end five) says;
-      says_denied = λ six. subst (Says said errs e f) (denied_told end six) says;
+      says_write = λ four. subst (Says said parts errs e f) (write_told end four) says;
+      says_memory = λ five. subst (Says said parts errs e f) (memory_told end five) says;
+      says_denied = λ six. subst (Says said parts errs e f) (denied_told end six) says;
     }
 
     -- what the run of a job shows by its result
-    pub run_of_result : (result : Result (Unit {0}) JobEnd) (status : ℕ) → OnOk result (Writes (held s) (script_of job) (written o) (written p))
-        → IfErr result (IsJobEnd (held s) (script_of job) (reads s) (reads t) (Rose (writes o) (writes p) × WritesPrefix (held s) (script_of job) (written o) (written p)))
-        → IfErr result (λ end. IsStoppedJob end → Leaves (writes_early job) (held s) (script_of job) written o p)
+    pub run_of_result : (result : Result (Unit {0}) JobEnd) (status : ℕ) → OnOk result (Writes (held s) (script_of job) written pieces o p)
+        → IfErr result (IsJobEnd (held s) (script_of job) (reads s) (reads t) (Rose (writes o) (writes p) × WritesPrefix (held s) (script_of job) written pieces o p))
+        → IfErr result (λ end. IsStoppedJob end → Leaves (writes_early job) (held s) (script_of job) written pieces o p)
         → IfErr result (λ end. IsRefusedJob end → TellsAll (held s) (script_of job) → p ≡ o) → Fetched job s t (job_status result) → held t ≡ held s
-        → OnOk result ((status ≡ 0) × (f ≡ e)) → IfErr result (λ end. (status ≡ end_status end) × Says said errs e f (end_line end)) → Run (Some job) shelf_whole held fetches reads s t written writes o p said errs e f status
+        → OnOk result ((status ≡ 0) × (f ≡ e)) → IfErr result (λ end. (status ≡ end_status end) × Says said parts errs e f (end_line end)) → Run (Some job) shelf_whole held fetches reads s t written pieces writes o p said parts errs e f status
     run_of_result (Ok done) status whole_text cause left unwritten went kept whole stopped =
-        let of_err : E → Type 0 = λ x. Run (Some job) shelf_whole held fetches reads s t written writes o p said errs e x status in
-        subst of_err (sym whole.1) (subst (λ n. Run (Some job) shelf_whole held fetches reads s t written writes o p said errs e e n) (sym whole.0) (run_of_whole job s t o p e whole_text went kept))
+        let of_err : E → Type 0 = λ x. Run (Some job) shelf_whole held fetches reads s t written pieces writes o p said parts errs e x status in
+        subst of_err (sym whole.1) (subst (λ n. Run (Some job) shelf_whole held fetches reads s t written pieces writes o p said parts errs e e n) (sym whole.0) (run_of_whole job s t o p e whole_text went kept))
     run_of_result (Err end) status whole_text cause left unwritten went kept whole stopped =
-        subst (λ n. Run (Some job) shelf_whole held fetches reads s t written writes o p said errs e f n) (sym stopped.0) (run_of_end end cause left unwritten went kept stopped.1)
+        subst (λ n. Run (Some job) shelf_whole held fetches reads s t written pieces writes o p said parts errs e f n) (sym stopped.0) (run_of_end end cause left unwritten went kept stopped.1)

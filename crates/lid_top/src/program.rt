@@ -6,6 +6,7 @@ ghost use Rattle.lid_top_words.specs.Jobs.{job_of};
 ghost use Rattle.lid_top_refusals.specs.Faults.{usage_line, memory_line};
 ghost use Rattle.lid_top_refusals.specs.Saying.{Says};
 ghost use Rattle.lid_top_script.specs.Statuses.{Run};
+ghost use Rattle.lid_top.specs.Wordless.{IsStatusWithout};
 
 use crate::top::lid_run;
 use lid_base::{OpenGate, Shelf, Sink, Text};
@@ -16,7 +17,9 @@ use std::thread::Threads;
 
 /// Says why there are no words, and answers the status: a word that is no text is no word of a job.
 fn without_words<E: Sink>(err: &mut E, cause: &io::Error) -> u8
-    ensures { ((result ≡ 2) × Says E.written E.faults err.old err.new usage_line) ⊎ ((result ≡ 5) × Says E.written E.faults err.old err.new memory_line) }
+    ensures status { IsStatusWithout cause.now result }
+    ensures says { ((result ≡ 2) × Says E.written E.pieces E.faults err.old err.new usage_line)
+        ⊎ ((result ≡ 5) × Says E.written E.pieces E.faults err.old err.new memory_line) }
 {
     if cause.kind() == io::ErrorKind::OutOfMemory {
         say_memory(err);
@@ -29,7 +32,7 @@ fn without_words<E: Sink>(err: &mut E, cause: &io::Error) -> u8
 
 /// Runs the job that the words after the program's name ask for, and ends with the status of
 /// [`lid_run`](crate::lid_run). Where the system gives no words, as for one that is no text, they are
-/// no job.
+/// no job: the status is 2, and 5 exactly where the system gives none for want of memory.
 pub fn run_program<R, S, O, E>(
     rt: &R,
     words: io::Result<Vec<Text>>,
@@ -43,9 +46,10 @@ where
     O: Sink,
     E: Sink,
     ensures ran { IfOk words (λ words. Run (job_of words.items) S.whole S.held S.fetches S.faults shelf.old shelf.new
-        O.written O.faults out.old out.new E.written E.faults err.old err.new (exit_status result)) }
+        O.written O.pieces O.faults out.old out.new E.written E.pieces E.faults err.old err.new (exit_status result)) }
     ensures wordless { IfErr words (λ cause. Run None S.whole S.held S.fetches S.faults shelf.old shelf.new
-        O.written O.faults out.old out.new E.written E.faults err.old err.new (exit_status result)) }
+        O.written O.pieces O.faults out.old out.new E.written E.pieces E.faults err.old err.new (exit_status result)) }
+    ensures told_apart { IfErr words (λ cause. IsStatusWithout cause (exit_status result)) }
 {
     let status = match words {
         Ok(words) => lid_run(rt, &words, shelf, out, err, &OpenGate),

@@ -11,7 +11,7 @@ use lid_top_script::{JobEnd, Stop};
 /// Says why there is no output, and answers the status.
 fn say_stop<E: Sink>(err: &mut E, stop: &Stop<'_>) -> u8
     ensures status { result ≡ stop_status stop.now }
-    ensures says { Says E.written E.faults err.old err.new (stop_line stop.now) }
+    ensures says { Says E.written E.pieces E.faults err.old err.new (stop_line stop.now) }
 {
     match stop {
         Stop::Refused(refusal) => {
@@ -36,7 +36,7 @@ fn say_stop<E: Sink>(err: &mut E, stop: &Stop<'_>) -> u8
 /// Says why the output is not whole, and answers the status.
 pub fn say_end<E: Sink>(err: &mut E, end: &JobEnd<'_>) -> u8
     ensures status { result ≡ end_status end.now }
-    ensures says { Says E.written E.faults err.old err.new (end_line end.now) }
+    ensures says { Says E.written E.pieces E.faults err.old err.new (end_line end.now) }
 {
     match end {
         JobEnd::Stopped(stop) => say_stop(err, stop),

@@ -16,11 +16,12 @@ use std::thread::Threads;
 
 /// Runs the job that the words ask for, and answers the status of the program:
 ///
-/// * 0: done. The output of the job was written to `out`.
+/// * 0: done. The output of the job was written to `out`, in pieces of 65,536 bytes, the last of which may be
+///   shorter.
 /// * 1: refused. The first reading, check or limit that refuses is told, after complete fetches.
 /// * 2: usage. The words are no job.
 /// * 3: read fault. A fetch of the file that is told failed.
-/// * 4: write fault. A prefix of the output was written.
+/// * 4: write fault. A prefix of the output was written, by some first of its pieces.
 /// * 5: want of memory.
 /// * 6: the certificate that was to be verified is none of the graph.
 ///
@@ -41,8 +42,8 @@ where
     O: Sink,
     E: Sink,
     G: Gate,
-    ensures { Run (job_of words.now) S.whole S.held S.fetches S.faults shelf.old shelf.new O.written O.faults out.old out.new
-        E.written E.faults err.old err.new result }
+    ensures { Run (job_of words.now) S.whole S.held S.fetches S.faults shelf.old shelf.new
+        O.written O.pieces O.faults out.old out.new E.written E.pieces E.faults err.old err.new result }
 {
     match read_words(rt.alloc(), words) {
         Ok(Some(job)) => status_of(err, run_job(rt, &job, shelf, out, gate)),
@@ -60,7 +61,7 @@ where
 /// Answers the status of a job that has ended, and says why its output is not whole.
 fn status_of<E: Sink>(err: &mut E, ended: Result<(), JobEnd<'_>>) -> u8
     ensures whole { OnOk ended.entry ((result ≡ 0) × (err.new ≡ err.old)) }
-    ensures stopped { IfErr ended.entry (λ end. (result ≡ end_status end) × Says E.written E.faults err.old err.new (end_line end)) }
+    ensures stopped { IfErr ended.entry (λ end. (result ≡ end_status end) × Says E.written E.pieces E.faults err.old err.new (end_line end)) }
 {
     match ended {
         Ok(()) => 0,

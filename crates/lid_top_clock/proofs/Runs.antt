@@ -97,15 +97,15 @@ module _ (held : List ℕ → Option (List ℕ)) (d : Design) (s : System) (p : 
       text_of = clock_text d s p of well second.input table.0 table.1 stalls trace text is;
     }
 
-    part_written : (old new : Option (List ℕ)) → ((l : Life) → LifeBegins r given l → WritesPart r l old new) → WritesPrefix held script old new
-    part_written old new told =
+    part_written : {O : Type 0} (written : O → Option (List ℕ)) (pieces : O → Option (List (List ℕ))) (old new : O) → ((l : Life) → LifeBegins r given l → WritesPart r l written pieces old new) → WritesPrefix held script written pieces old new
+    part_written written pieces old new told =
         let part = told alive begins in
-        record { text = part.text; has = has_text part.text part.is; appended = part.written }
+        record { text = part.text; has = has_text part.text part.is; appended = part.appended; came = part.came }
 
-  all_written : (old new : Option (List ℕ)) → HasRun r old new → Writes held script old new
-  all_written old new ran =
+  all_written : {O : Type 0} (written : O → Option (List ℕ)) (pieces : O → Option (List (List ℕ))) (old new : O) → HasRun r written pieces old new → Writes held script written pieces old new
+  all_written written pieces old new ran =
       let whole = ran.told (alive ran.rows ran.given) (begins ran.rows ran.given) in
-      record { text = whole.text; has = has_text ran.rows ran.given whole.text whole.is; appended = whole.written }
+      record { text = whole.text; has = has_text ran.rows ran.given whole.text whole.is; appended = whole.appended; came = whole.came }
 
   reached : ReachesFetch held script vec
   unfolding rerun_script
@@ -115,29 +115,29 @@ module _ (held : List ℕ → Option (List ℕ)) (d : Design) (s : System) (p : 
   unfolding rerun_script
   changed line falls = inr (line, is_changed held d vec rows got line falls, refl)
 
-  module _ {O : Type 0} (written : O → Option (List ℕ)) (writes : O → ℕ) (before after : List ℕ → ℕ) (out out_after : O) where
+  module _ {O : Type 0} (written : O → Option (List ℕ)) (pieces : O → Option (List (List ℕ))) (writes : O → ℕ) (before after : List ℕ → ℕ) (out out_after : O) where
     abbrev Runs : Result (Unit {0}) JobEnd → Type 0
-    Runs result = RunsEarly held script before after written writes out out_after result
+    Runs result = RunsEarly held script before after written pieces writes out out_after result
 
     abbrev Failed : Type 0
-    Failed = Rose (writes out) (writes out_after) × WritesPrefix held script (written out) (written out_after)
+    Failed = Rose (writes out) (writes out_after) × WritesPrefix held script written pieces out out_after
 
     -- of such columns, over a file of such a name
     abbrev Ran : List (List ℕ) → List ℕ → Type 0
-    Ran columns name = HasRun (run_of s p columns count trace stalls (held name)) (written out) (written out_after)
+    Ran columns name = HasRun (run_of s p columns count trace stalls (held name)) written pieces out out_after
 
     abbrev Stops : RunFault → List (List ℕ) → List ℕ → Type 0
-    Stops fault columns name = HasStopped (run_of s p columns count trace stalls (held name)) (written out) (written out_after) (Rose (before name) (after name)) (Rose (writes out) (writes out_after)) fault
+    Stops fault columns name = HasStopped (run_of s p columns count trace stalls (held name)) written pieces out out_after (Rose (before name) (after name)) (Rose (writes out) (writes out_after)) fault
 
     pub runs_whole : {columns : List (List ℕ)} {name : List ℕ} → columns ≡ root_outputs d → name ≡ vec → Ran columns name → Runs (Ok tt)
     runs_whole same named ran = record {
-      done = all_written (written out) (written out_after) (along Ran same named ran);
+      done = all_written written pieces out out_after (along Ran same named ran);
       fails = tt;
       left = tt;
       unwritten = tt;
     }
 
-    module _ (part : WritesPrefix held script (written out) (written out_after)) where
+    module _ (part : WritesPrefix held script written pieces out out_after) where
       ended : (end : JobEnd) → IsJobEnd held script before after Failed end → (IsRefusedJob end → IsSome (held vec) → ⊥) → Runs (Err end)
       ended end is never = record {
         done = tt;
@@ -172,13 +172,13 @@ module _ (held : List ℕ → Option (List ℕ)) (d : Design) (s : System) (p : 
 
     in_part : (fault : RunFault) → Stops fault (root_outputs d) vec → Runs (Err (end_of_run file count fault))
     in_part fault stopped =
-        by_cause (part_written stopped.rows stopped.given (written out) (written out_after) stopped.told) stopped.rows fault stopped.cause
+        by_cause (part_written stopped.rows stopped.given written pieces out out_after stopped.told) stopped.rows fault stopped.cause
 
     pub runs_in_part : {columns : List (List ℕ)} {name : List ℕ} {end : JobEnd} (fault : RunFault) → end ≡ end_of_run file count fault → columns ≡ root_outputs d → name ≡ vec → Stops fault columns name → Runs (Err end)
     runs_in_part fault is same named stopped = subst (λ end. Runs (Err end)) (sym is) (in_part fault (along (Stops fault) same named stopped))
 
 -- what is said of the fields of a design with its stations is said of it
-pub runs_outside : {O : Type 0} {held : List ℕ → Option (List ℕ)} {before after : List ℕ → ℕ} {written : O → Option (List ℕ)} {writes : O → ℕ} {out out_after : O} {result : Result (Unit {0}) JobEnd} {fields w : Wrapping} (a : Asked) (stalls : Option (List Stall)) (rows : List (List Bool)) → fields ≡ w
-    → RunsEarly held (after_trace a fields stalls rows) before after written writes out out_after result → RunsEarly held (after_trace a w stalls rows) before after written writes out out_after result
-runs_outside {held = held} {before = before} {after = after} {written = written} {writes = writes} {out = out} {out_after = out_after} {result = result} a stalls rows same ran =
-    subst (λ (u : Wrapping). RunsEarly held (after_trace a u stalls rows) before after written writes out out_after result) same ran
+pub runs_outside : {O : Type 0} {held : List ℕ → Option (List ℕ)} {before after : List ℕ → ℕ} {written : O → Option (List ℕ)} {pieces : O → Option (List (List ℕ))} {writes : O → ℕ} {out out_after : O} {result : Result (Unit {0}) JobEnd} {fields w : Wrapping} (a : Asked) (stalls : Option (List Stall)) (rows : List (List Bool)) → fields ≡ w
+    → RunsEarly held (after_trace a fields stalls rows) before after written pieces writes out out_after result → RunsEarly held (after_trace a w stalls rows) before after written pieces writes out out_after result
+runs_outside {held = held} {before = before} {after = after} {written = written} {pieces = pieces} {writes = writes} {out = out} {out_after = out_after} {result = result} a stalls rows same ran =
+    subst (λ (u : Wrapping). RunsEarly held (after_trace a u stalls rows) before after written pieces writes out out_after result) same ran

@@ -2,8 +2,8 @@
 use Rattle.std.proofs.Common.{◌≡◌, ◌↔◌, ℕ, ◌+◌, ◌-◌, ◌<◌, ◌≤◌, ◌==◌, ◌⊎◌, inl, inr, Bool, true, false, List, [], ◌++◌, length, Option, Some, Result, Ok, Err, OnErr, IfErr, refl, sym, ◌∙◌, ap, subst, append_assoc, append-nil, add-one, true≢false, arith}
 use Rattle.std.specs.List.{flat_map}
 use Rattle.std.proofs.lemmas.Bool.Decides.{eqb_tells}
-use Rattle.lid_base.specs.Outside.{Rose, Appended, AppendedPrefix}
-use Rattle.lid_base.proofs.Writes.{first_and_part, part_of_first}
+use Rattle.lid_base.specs.Outside.{Rose, Appended, Came}
+use Rattle.lid_base_io.specs.Calls.{pieces_of, full_pieces}
 use Rattle.lid_base.specs.Each.{from_each}
 use Rattle.lid_graph.specs.Firings.{firings}
 use Rattle.lid_system.specs.Streams.{output_row}
@@ -22,18 +22,18 @@ use Rattle.lid_top_clock.specs.declared.lines.Telling.{Telling}
 use Rattle.lid_top_clock.specs.declared.steps.Running.{Running}
 use Rattle.lid_top_clock.specs.RunTexts.{first_outputs, end_text}
 use Rattle.lid_top_clock.specs.Runnings.{ClockRun, LifeBegins, Writes, WritesPart, HasStopped, IsRunCause}
-use Rattle.lid_top_clock.specs.Pushing.{HasPushed, Adds, Breaks, Closes, IsTellCause, last_text}
+use Rattle.lid_top_clock.specs.Pushing.{HasPushed, WritesFirst, Adds, Breaks, BreaksAtEnd, Closes, IsTellCause, last_text}
 use Rattle.lid_top_clock.specs.Courses.{RanBy}
 use Rattle.lid_top_clock.specs.Stepping.{IsFed, HasNotEnded, HasTold}
 use Rattle.lid_top_clock.proofs.Outputs.{header_alone, rows_one_more, rows_first}
 use Rattle.lid_top_clock.proofs.Ends.{IsFirstAt, sink_within, sink_rests, some_text, text_at}
-use Rattle.lid_top_clock.proofs.Pushes.{pushes_begin, nothing_of}
+use Rattle.lid_top_clock.proofs.Pushes.{pushes_begin, writes_none, pushed_part, part_of_longer}
 
 -- a run is told as far as its cycles go
-pub record IsTelling (r : ClockRun) (held : Option (List ℕ)) (run : Running) (feed : RowFeed) (telling : Telling) (before now : Option (List ℕ)) : Type 0 where
+pub record IsTelling {O : Type 0} (written : O → Option (List ℕ)) (pieces : O → Option (List (List ℕ))) (r : ClockRun) (held : Option (List ℕ)) (run : Running) (feed : RowFeed) (telling : Telling) (before now : O) : Type 0 where
   pub given : List (List Bool)
   pub fed : IsFed r held run feed given
-  pub told : HasTold r given run.made before now telling.writer
+  pub told : HasTold r given run.made written pieces before now telling.writer
   pub line : telling.line.items ≡ []
 
 -- a count that rose later, or earlier, rose
@@ -52,8 +52,8 @@ cause_later r rows reads before writes within Memory on also c = tt
 cause_later r rows reads before writes within Write on also c = also c
 
 -- a run that stopped, as seen from earlier on
-pub stopped_later : (r : ClockRun) (before now : Option (List ℕ)) (reads later writes : Type 0) (fault : RunFault) → (later → reads) → HasStopped r before now later writes fault → HasStopped r before now reads writes fault
-stopped_later r before now reads later writes fault on s = record {
+pub stopped_later : {O : Type 0} (written : O → Option (List ℕ)) (pieces : O → Option (List (List ℕ))) (r : ClockRun) (before now : O) (reads later writes : Type 0) (fault : RunFault) → (later → reads) → HasStopped r written pieces before now later writes fault → HasStopped r written pieces before now reads writes fault
+stopped_later written pieces r before now reads later writes fault on s = record {
   rows = s.rows;
   given = s.given;
   told = s.told;
@@ -66,32 +66,31 @@ cause_of_telling r rows reads before writes (Few found) on c = absurd c
 cause_of_telling r rows reads before writes Memory on c = tt
 cause_of_telling r rows reads before writes Write on c = on c
 
--- what was pushed is written at least in part
-pub pushed_part : (before now : Option (List ℕ)) (held text : List ℕ) → HasPushed before now held text → AppendedPrefix before now text
-pushed_part before now held text p = subst (λ (xs : List ℕ). AppendedPrefix before now xs) p.whole (first_and_part before now now p.done held p.written (nothing_of now held))
+module _ {O : Type 0} (written : O → Option (List ℕ)) (pieces : O → Option (List (List ℕ))) (r : ClockRun) (ascends : Ascend (listed r.stalls)) (given : List (List Bool)) (l : Life) (b : LifeBegins r given l) where
+  -- a first part of the text of the first rows was written, and no pieces but full ones
+  abbrev Rows : O → O → ℕ → Type 0
+  Rows before now n = WritesFirst written pieces before now (rows_text r.columns (first_outputs l n)) (full_pieces (rows_text r.columns (first_outputs l n)))
 
-module _ (r : ClockRun) (ascends : Ascend (listed r.stalls)) (given : List (List Bool)) (l : Life) (b : LifeBegins r given l) where
   -- the text of the first rows is a first part of the text
-  pub part_of_rows : (before now : Option (List ℕ)) (n : ℕ) → n ≤ length l.setup.input → AppendedPrefix before now (rows_text r.columns (first_outputs l n)) → WritesPart r l before now
-  part_of_rows before now n few a =
+  pub part_of_rows : (before now : O) (n : ℕ) → n ≤ length l.setup.input → Rows before now n → WritesPart r l written pieces before now
+  part_of_rows before now n few w =
       let all = length l.setup.input in
       let t = some_text l b.of.rules r.stalls b.of.held ascends r.columns r.trace in
       let f = output_row l.setup.system l.setup.table in
       let rest = flat_map (row_text r.columns) (from_each f (0 + n) (all - n)) in
-      record {
-        text = rows_text r.columns (first_outputs l all) ++ end_text l r.stalls r.trace t.0;
-        is = t.1;
-        written =
-            subst (λ (xs : List ℕ). AppendedPrefix before now xs)
-            (sym (ap (λ (xs : List ℕ). xs ++ end_text l r.stalls r.trace t.0) (rows_first r.columns f n all few) ∙ append_assoc (rows_text r.columns (first_outputs l n)) rest (end_text l r.stalls r.trace t.0)))
-            (part_of_first before now (rows_text r.columns (first_outputs l n)) (rest ++ end_text l r.stalls r.trace t.0) a);
-      }
+      let text = rows_text r.columns (first_outputs l all) ++ end_text l r.stalls r.trace t.0 in
+      let whole : rows_text r.columns (first_outputs l n) ++ (rest ++ end_text l r.stalls r.trace t.0) ≡ text =
+      sym (ap (λ (xs : List ℕ). xs ++ end_text l r.stalls r.trace t.0) (rows_first r.columns f n all few) ∙ append_assoc (rows_text r.columns (first_outputs l n)) rest (end_text l r.stalls r.trace t.0)) in
+      let part : WritesFirst written pieces before now text (pieces_of text) =
+      subst (λ (xs : List ℕ). WritesFirst written pieces before now xs (pieces_of xs)) whole
+      (part_of_longer written pieces before now (rows_text r.columns (first_outputs l n)) (rest ++ end_text l r.stalls r.trace t.0) w) in
+      record { text = text; is = t.1; appended = part.appended; came = part.came }
 
-  pub part_of_fired : (before now : Option (List ℕ)) (k : ℕ) → AppendedPrefix before now (rows_text r.columns (first_outputs l (fired_after l k (sink l)))) → WritesPart r l before now
-  part_of_fired before now k a = part_of_rows before now (fired_after l k (sink l)) (sink_within l b.of.rules k) a
+  pub part_of_fired : (before now : O) (k : ℕ) → Rows before now (fired_after l k (sink l)) → WritesPart r l written pieces before now
+  part_of_fired before now k w = part_of_rows before now (fired_after l k (sink l)) (sink_within l b.of.rules k) w
 
-  pub part_of_none : (now : Option (List ℕ)) → WritesPart r l now now
-  part_of_none now = part_of_rows now now 0 (omega arith) (nothing_of now (rows_text r.columns (first_outputs l 0)))
+  pub part_of_none : (now : O) → WritesPart r l written pieces now now
+  part_of_none now = part_of_rows now now 0 (omega arith) (writes_none written pieces now (rows_text r.columns (first_outputs l 0)) (full_pieces (rows_text r.columns (first_outputs l 0))))
 
   -- no actor has fired before the first cycle
   none_fired : fired_after l 0 (sink l) ≡ 0
@@ -101,16 +100,17 @@ module _ (r : ClockRun) (ascends : Ascend (listed r.stalls)) (given : List (List
   header_is : [] ++ line_text (header_words r.columns) ≡ rows_text r.columns (first_outputs l (fired_after l 0 (sink l)))
   header_is = sym (header_alone r.columns) ∙ ap (λ (n : ℕ). rows_text r.columns (first_outputs l n)) (sym none_fired)
 
-  pub header_told : (columns : List (List ℕ)) → r.columns ≡ columns → (before now : Option (List ℕ)) (held rest : List ℕ) → held ≡ [] → Adds before now held rest (line_text (header_words columns)) → HasPushed before now rest (rows_text r.columns (first_outputs l (fired_after l 0 (sink l))))
+  pub header_told : (columns : List (List ℕ)) → r.columns ≡ columns → (before now : O) (held rest : List ℕ) → held ≡ [] → Adds written pieces before now held rest (line_text (header_words columns)) → HasPushed written pieces before now rest (rows_text r.columns (first_outputs l (fired_after l 0 (sink l))))
   header_told columns named before now held rest none add =
-      let told = subst (λ (names : List (List ℕ)). Adds before now held rest (line_text (header_words names))) (sym named) add in
-      subst (λ (xs : List ℕ). HasPushed before now rest xs) header_is (told before [] (subst (λ (xs : List ℕ). HasPushed before before xs []) (sym none) (pushes_begin before)))
+      let told = subst (λ (names : List (List ℕ)). Adds written pieces before now held rest (line_text (header_words names))) (sym named) add in
+      subst (λ (xs : List ℕ). HasPushed written pieces before now rest xs) header_is (told before [] (subst (λ (xs : List ℕ). HasPushed written pieces before before xs []) (sym none) (pushes_begin written pieces before)))
 
-  pub header_breaks : (columns : List (List ℕ)) → r.columns ≡ columns → (before now : Option (List ℕ)) (held : List ℕ) → held ≡ [] → Breaks before now held (line_text (header_words columns)) → WritesPart r l before now
+  pub header_breaks : (columns : List (List ℕ)) → r.columns ≡ columns → (before now : O) (held : List ℕ) → held ≡ [] → Breaks written pieces before now held (line_text (header_words columns)) → WritesPart r l written pieces before now
   header_breaks columns named before now held none break =
-      let told = subst (λ (names : List (List ℕ)). Breaks before now held (line_text (header_words names))) (sym named) break in
+      let told = subst (λ (names : List (List ℕ)). Breaks written pieces before now held (line_text (header_words names))) (sym named) break in
       part_of_fired before now 0
-      (subst (λ (xs : List ℕ). AppendedPrefix before now xs) header_is (told before [] (subst (λ (xs : List ℕ). HasPushed before before xs []) (sym none) (pushes_begin before))))
+      (subst (λ (xs : List ℕ). WritesFirst written pieces before now xs (full_pieces xs)) header_is
+      (told before [] (subst (λ (xs : List ℕ). HasPushed written pieces before before xs []) (sym none) (pushes_begin written pieces before))))
 
   -- the row of a cycle
   module _ (made : ℕ) (last : Option (List Bool)) (is_last : IsLast l (made + 1) last) where
@@ -149,16 +149,16 @@ module _ (r : ClockRun) (ascends : Ascend (listed r.stalls)) (given : List (List
         by (inl does) = sunk does.1
         by (inr not) = rests not.1
 
-    module _ (before now new : Option (List ℕ)) (held : List ℕ) (pushed : HasPushed before now held (rows_text r.columns (first_outputs l (fired_after l made (sink l))))) where
-      pub last_told : (columns : List (List ℕ)) → r.columns ≡ columns → (rest : List ℕ) → Adds now new held rest (last_text columns last) → HasPushed before new rest (rows_text r.columns (first_outputs l (fired_after l (made + 1) (sink l))))
+    module _ (before now new : O) (held : List ℕ) (pushed : HasPushed written pieces before now held (rows_text r.columns (first_outputs l (fired_after l made (sink l))))) where
+      pub last_told : (columns : List (List ℕ)) → r.columns ≡ columns → (rest : List ℕ) → Adds written pieces now new held rest (last_text columns last) → HasPushed written pieces before new rest (rows_text r.columns (first_outputs l (fired_after l (made + 1) (sink l))))
       last_told columns named rest add =
-          let told = subst (λ (names : List (List ℕ)). Adds now new held rest (last_text names last)) (sym named) add in
-          subst (λ (xs : List ℕ). HasPushed before new rest xs) row_told (told before _ pushed)
+          let told = subst (λ (names : List (List ℕ)). Adds written pieces now new held rest (last_text names last)) (sym named) add in
+          subst (λ (xs : List ℕ). HasPushed written pieces before new rest xs) row_told (told before _ pushed)
 
-      pub last_breaks : (columns : List (List ℕ)) → r.columns ≡ columns → Breaks now new held (last_text columns last) → WritesPart r l before new
+      pub last_breaks : (columns : List (List ℕ)) → r.columns ≡ columns → Breaks written pieces now new held (last_text columns last) → WritesPart r l written pieces before new
       last_breaks columns named break =
-          let told = subst (λ (names : List (List ℕ)). Breaks now new held (last_text names last)) (sym named) break in
-          part_of_fired before new (made + 1) (subst (λ (xs : List ℕ). AppendedPrefix before new xs) row_told (told before _ pushed))
+          let told = subst (λ (names : List (List ℕ)). Breaks written pieces now new held (last_text names last)) (sym named) break in
+          part_of_fired before new (made + 1) (subst (λ (xs : List ℕ). WritesFirst written pieces before new xs (full_pieces xs)) row_told (told before _ pushed))
 
   -- the end
   module _ (k : ℕ) (busy : (j : ℕ) → j < k → IsBelow l j) (over : IsBelow l k → ⊥) where
@@ -175,28 +175,28 @@ module _ (r : ClockRun) (ascends : Ascend (listed r.stalls)) (given : List (List
             by (inl none) = let e = none.1 in omega arith
             by (inr some) = let below = busy j (let e = some.1 in omega (arith, e)) in absurd (omega (arith, below, is))
 
-    module _ (before now new : Option (List ℕ)) (held line : List ℕ) (pushed : HasPushed before now held (rows_text r.columns (first_outputs l (fired_after l k (sink l))))) (is : line ≡ end_text l r.stalls r.trace k) where
+    module _ (before now new : O) (held line : List ℕ) (pushed : HasPushed written pieces before now held (rows_text r.columns (first_outputs l (fired_after l k (sink l))))) (is : line ≡ end_text l r.stalls r.trace k) where
       end_is : rows_text r.columns (first_outputs l (fired_after l k (sink l))) ++ line ≡ rows_text r.columns (first_outputs l (length l.setup.input)) ++ end_text l r.stalls r.trace k
       end_is = ap (λ (n : ℕ). rows_text r.columns (first_outputs l n) ++ line) ended ∙ ap (λ (xs : List ℕ). rows_text r.columns (first_outputs l (length l.setup.input)) ++ xs) is
 
-      pub end_told : Closes now new held line → Writes r l before new
-      end_told close = record {
-        text = rows_text r.columns (first_outputs l (length l.setup.input)) ++ end_text l r.stalls r.trace k;
-        is = text_at l b.of.rules r.stalls b.of.held ascends r.columns r.trace k first_end;
-        written = subst (λ (xs : List ℕ). Appended before new xs) end_is (close before _ pushed);
-      }
+      pub end_told : Closes written pieces now new held line → Writes r l written pieces before new
+      end_told close =
+          let text = rows_text r.columns (first_outputs l (length l.setup.input)) ++ end_text l r.stalls r.trace k in
+          let both : Appended (written before) (written new) text × Came (pieces before) (pieces new) (pieces_of text) =
+          subst (λ (xs : List ℕ). Appended (written before) (written new) xs × Came (pieces before) (pieces new) (pieces_of xs)) end_is (close before _ pushed) in
+          record { text = text; is = text_at l b.of.rules r.stalls b.of.held ascends r.columns r.trace k first_end; appended = both.0; came = both.1 }
 
-      pub end_breaks : Breaks now new held line → WritesPart r l before new
-      end_breaks break = record {
-        text = rows_text r.columns (first_outputs l (length l.setup.input)) ++ end_text l r.stalls r.trace k;
-        is = text_at l b.of.rules r.stalls b.of.held ascends r.columns r.trace k first_end;
-        written = subst (λ (xs : List ℕ). AppendedPrefix before new xs) end_is (break before _ pushed);
-      }
+      pub end_breaks : BreaksAtEnd written pieces now new held line → WritesPart r l written pieces before new
+      end_breaks break =
+          let text = rows_text r.columns (first_outputs l (length l.setup.input)) ++ end_text l r.stalls r.trace k in
+          let part : WritesFirst written pieces before new text (pieces_of text) =
+          subst (λ (xs : List ℕ). WritesFirst written pieces before new xs (pieces_of xs)) end_is (break before _ pushed) in
+          record { text = text; is = text_at l b.of.rules r.stalls b.of.held ascends r.columns r.trace k first_end; appended = part.appended; came = part.came }
 
-module _ (r : ClockRun) (held : Option (List ℕ)) (run : Running) (feed : RowFeed) (telling : Telling) (before now : Option (List ℕ)) (t : IsTelling r held run feed telling before now) where
+module _ {O : Type 0} (written : O → Option (List ℕ)) (pieces : O → Option (List (List ℕ))) (r : ClockRun) (held : Option (List ℕ)) (run : Running) (feed : RowFeed) (telling : Telling) (before now : O) (t : IsTelling written pieces r held run feed telling before now) where
   -- what was told so far is a first part of the text
-  pub told_part : (l : Life) → LifeBegins r t.given l → WritesPart r l before now
-  told_part l b = part_of_fired r t.fed.running.rules.ascend t.given l b before now run.made (pushed_part before now telling.writer _ (t.told l b))
+  pub told_part : (l : Life) → LifeBegins r t.given l → WritesPart r l written pieces before now
+  told_part l b = part_of_fired written pieces r t.fed.running.rules.ascend t.given l b before now run.made (pushed_part written pieces before now telling.writer _ (t.told l b))
 
   module _ (goes : Bool) (tells : (l : Life) (k g : ℕ) → RanBy l k g run.stream → (goes ≡ true) ↔ IsBelow l k) where
     pub goes_on : goes ≡ true → HasNotEnded r run t.given
@@ -206,12 +206,12 @@ module _ (r : ClockRun) (held : Option (List ℕ)) (run : Running) (feed : RowFe
     is_over ends l b below = true≢false (sym ((tells l run.made (length t.given) (t.fed.running.lives l b).ran).1 below) ∙ ends)
 
     -- where it is over, the line that is pushed last ends the text
-    module _ (ends : goes ≡ false) (new : Option (List ℕ)) (line : List ℕ) (is : (l : Life) → LifeBegins r t.given l → line ≡ end_text l r.stalls r.trace run.made) where
-      pub over_told : Closes now new telling.writer line → (l : Life) → LifeBegins r t.given l → Writes r l before new
-      over_told close l b = end_told r t.fed.running.rules.ascend t.given l b run.made (t.fed.running.lives l b).busy (is_over ends l b) before now new telling.writer line (t.told l b) (is l b) close
+    module _ (ends : goes ≡ false) (new : O) (line : List ℕ) (is : (l : Life) → LifeBegins r t.given l → line ≡ end_text l r.stalls r.trace run.made) where
+      pub over_told : Closes written pieces now new telling.writer line → (l : Life) → LifeBegins r t.given l → Writes r l written pieces before new
+      over_told close l b = end_told written pieces r t.fed.running.rules.ascend t.given l b run.made (t.fed.running.lives l b).busy (is_over ends l b) before now new telling.writer line (t.told l b) (is l b) close
 
-      pub over_breaks : Breaks now new telling.writer line → (l : Life) → LifeBegins r t.given l → WritesPart r l before new
-      over_breaks break l b = end_breaks r t.fed.running.rules.ascend t.given l b run.made (t.fed.running.lives l b).busy (is_over ends l b) before now new telling.writer line (t.told l b) (is l b) break
+      pub over_breaks : BreaksAtEnd written pieces now new telling.writer line → (l : Life) → LifeBegins r t.given l → WritesPart r l written pieces before new
+      over_breaks break l b = end_breaks written pieces r t.fed.running.rules.ascend t.given l b run.made (t.fed.running.lives l b).busy (is_over ends l b) before now new telling.writer line (t.told l b) (is l b) break
 
 -- what holds of a fault, from two facts
 pub err_both : {A E P : Type 0} (Q R : E → Type 0) (result : Result A E) → ((e : E) → P → Q e → R e) → OnErr result P → IfErr result Q → IfErr result R

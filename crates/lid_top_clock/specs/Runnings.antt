@@ -1,9 +1,10 @@
 -- What a run does that is fed its rows by a file: it writes the text of each life that begins with the rows that
--- it was given, whole or in part.
+-- it was given, whole or in part, in its pieces or some first of them.
 use Rattle.std.specs.Prelude.{◌≡◌, ℕ, ◌<◌, ◌≤◌, Bool, List, [], length, take, Option, slice_get, ⊤}
 use Rattle.std.specs.List.{AllByRecursion}
 use Rattle.std.specs.Option.{option_map_or}
-use Rattle.lid_base.specs.Outside.{Appended, AppendedPrefix}
+use Rattle.lid_base.specs.Outside.{Appended, AppendedPrefix, Came, CamePrefix}
+use Rattle.lid_base_io.specs.Calls.{pieces_of}
 use Rattle.lid_system.specs.declared.System.{System}
 use Rattle.lid_system.specs.declared.Node.{Node}
 use Rattle.lid_system.specs.declared.Node.TheVariants.{Source, Shell, Sink}
@@ -59,23 +60,28 @@ pub record LifeBegins (r : ClockRun) (rows : List (List Bool)) (l : Life) : Type
   pub first : take (length rows) l.setup.input ≡ rows
 
 -- the text of a life was written
-pub record Writes (r : ClockRun) (l : Life) (before now : Option (List ℕ)) : Type 0 where
+pub record Writes {O : Type 0} (r : ClockRun) (l : Life) (written : O → Option (List ℕ)) (pieces : O → Option (List (List ℕ)))
+    (before now : O) : Type 0 where
   pub text : List ℕ
   pub is : IsRunText l r.columns r.stalls r.trace text
-  pub written : Appended before now text
+  pub appended : Appended (written before) (written now) text
+  pub came : Came (pieces before) (pieces now) (pieces_of text)
 
 -- a first part of the text of a life was written
-pub record WritesPart (r : ClockRun) (l : Life) (before now : Option (List ℕ)) : Type 0 where
+pub record WritesPart {O : Type 0} (r : ClockRun) (l : Life) (written : O → Option (List ℕ)) (pieces : O → Option (List (List ℕ)))
+    (before now : O) : Type 0 where
   pub text : List ℕ
   pub is : IsRunText l r.columns r.stalls r.trace text
-  pub written : AppendedPrefix before now text
+  pub appended : AppendedPrefix (written before) (written now) text
+  pub came : CamePrefix (pieces before) (pieces now) (pieces_of text)
 
 -- the file gave some rows, and the text of each life that begins with them was written. These are all rows but
 -- where the sink does not wait for the source
-pub record HasRun (r : ClockRun) (before now : Option (List ℕ)) : Type 0 where
+pub record HasRun {O : Type 0} (r : ClockRun) (written : O → Option (List ℕ)) (pieces : O → Option (List (List ℕ)))
+    (before now : O) : Type 0 where
   pub rows : List (List Bool)
   pub given : AreGiven r rows
-  pub told : (l : Life) → LifeBegins r rows l → Writes r l before now
+  pub told : (l : Life) → LifeBegins r rows l → Writes r l written pieces before now
 
 -- why a run stopped that was given these rows: a fetch failed, the file's text is refused, it has fewer rows,
 -- there was no memory, or a write failed
@@ -86,8 +92,9 @@ IsRunCause r rows reads writes Memory = ⊤
 IsRunCause r rows reads writes Write = writes
 
 -- the file gave some rows, and a first part of the text of each life that begins with them was written
-pub record HasStopped (r : ClockRun) (before now : Option (List ℕ)) (reads writes : Type 0) (fault : RunFault) : Type 0 where
+pub record HasStopped {O : Type 0} (r : ClockRun) (written : O → Option (List ℕ)) (pieces : O → Option (List (List ℕ)))
+    (before now : O) (reads writes : Type 0) (fault : RunFault) : Type 0 where
   pub rows : List (List Bool)
   pub given : AreGiven r rows
-  pub told : (l : Life) → LifeBegins r rows l → WritesPart r l before now
+  pub told : (l : Life) → LifeBegins r rows l → WritesPart r l written pieces before now
   pub cause : IsRunCause r rows reads writes fault

@@ -91,5 +91,6 @@ pub record HasMadeCycle (r : ClockRun) (before : List (List Bool)) (made : ℕ) 
   pub few : run.made < 2 ^ 64
 
 -- the rows for which the sink has fired were pushed
-abbrev pub HasTold : ClockRun → List (List Bool) → ℕ → Option (List ℕ) → Option (List ℕ) → List ℕ → Type 0
-HasTold r given made before now held = (l : Life) → LifeBegins r given l → HasPushed before now held (rows_text r.columns (first_outputs l (fired_after l made (sink l))))
+abbrev pub HasTold : {O : Type 0} → ClockRun → List (List Bool) → ℕ → (O → Option (List ℕ)) → (O → Option (List (List ℕ))) → O → O → List ℕ → Type 0
+HasTold r given made written pieces before now held =
+    (l : Life) → LifeBegins r given l → HasPushed written pieces before now held (rows_text r.columns (first_outputs l (fired_after l made (sink l))))

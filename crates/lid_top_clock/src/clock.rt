@@ -30,7 +30,8 @@ pub fn run_clock<'a, S: Shelf, O: Sink, R: Threads + AllocGlobal + Sync, G: Gate
     asked: &Asked<'a>,
 ) -> Result<(), JobEnd<'a>>
     requires some { 0 < workers.now.many }
-    ensures ran { RunsEarly (S.held shelf.old) (asked_script asked.now) (S.faults shelf.old) (S.faults shelf.new) O.written O.faults out.old out.new result }
+    ensures ran { RunsEarly (S.held shelf.old) (asked_script asked.now)
+        (S.faults shelf.old) (S.faults shelf.new) O.written O.pieces O.faults out.old out.new result }
     ensures kept { S.held shelf.new ≡ S.held shelf.old }
 {
     match read_wrapped(workers.rt.alloc(), shelf, &asked.files) {
@@ -49,7 +50,7 @@ fn run_wrapped<'a, S: Shelf, O: Sink, R: Threads + AllocGlobal + Sync, G: Gate>(
 ) -> Result<(), JobEnd<'a>>
     requires some { 0 < workers.now.many }
     ensures ran { RunsEarly (S.held shelf.old) (after_stations asked.now wrapped.now)
-        (S.faults shelf.old) (S.faults shelf.new) O.written O.faults out.old out.new result }
+        (S.faults shelf.old) (S.faults shelf.new) O.written O.pieces O.faults out.old out.new result }
     ensures kept { S.held shelf.new ≡ S.held shelf.old }
 {
     match read_job_stalls(workers.rt.alloc(), shelf, asked.stalls) {
@@ -70,7 +71,7 @@ fn run_stalled<'a, S: Shelf, O: Sink, R: Threads + AllocGlobal + Sync, G: Gate>(
     requires some { 0 < workers.now.many }
     requires ascend { Ascend (listed stalls) }
     ensures ran { RunsEarly (S.held shelf.old) (after_stalls asked.now wrapped.now stalls)
-        (S.faults shelf.old) (S.faults shelf.new) O.written O.faults out.old out.new result }
+        (S.faults shelf.old) (S.faults shelf.new) O.written O.pieces O.faults out.old out.new result }
     ensures kept { S.held shelf.new ≡ S.held shelf.old }
 {
     match count_rows(workers.rt.alloc(), shelf, wrapped, asked.vec) {
@@ -91,7 +92,7 @@ fn run_counted<'a, S: Shelf, O: Sink, R: Threads + AllocGlobal + Sync, G: Gate>(
     requires some { 0 < workers.now.many }
     ensures ran { (rows : List (List Bool)) → IsCounted (S.held shelf.old) asked.now wrapped.now given.rows rows
         → RunsEarly (S.held shelf.old) (after_rows asked.now wrapped.now given.stalls rows)
-        (S.faults shelf.old) (S.faults shelf.new) O.written O.faults out.old out.new result }
+        (S.faults shelf.old) (S.faults shelf.new) O.written O.pieces O.faults out.old out.new result }
     ensures kept { S.held shelf.new ≡ S.held shelf.old }
 {
     match judge_trace(wrapped, &asked.trace) {
@@ -113,7 +114,7 @@ fn run_again<'a, S: Shelf, O: Sink, R: Threads + AllocGlobal + Sync, G: Gate>(
     requires some { 0 < workers.now.many }
     ensures ran { (rows : List (List Bool)) → IsCounted (S.held shelf.old) asked.now wrapped.now given.rows rows
         → RunsEarly (S.held shelf.old) (after_trace asked.now wrapped.now given.stalls rows)
-        (S.faults shelf.old) (S.faults shelf.new) O.written O.faults out.old out.new result }
+        (S.faults shelf.old) (S.faults shelf.new) O.written O.pieces O.faults out.old out.new result }
     ensures kept { S.held shelf.new ≡ S.held shelf.old }
 {
     let checked = &wrapped.checked;

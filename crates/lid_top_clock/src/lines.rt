@@ -6,7 +6,7 @@ ghost use Rattle.lid_clock.specs.Ran.{lent};
 ghost use Rattle.lid_base_lines.specs.Texts.{line_text};
 ghost use Rattle.lid_texts.specs.Rows.{header_words};
 ghost use Rattle.lid_texts.specs.RowsText.{row_text};
-ghost use Rattle.lid_top_clock.specs.Pushing.{Adds, Breaks, Closes, IsTellCause, last_text};
+ghost use Rattle.lid_top_clock.specs.Pushing.{Adds, Breaks, BreaksAtEnd, Closes, IsTellCause, last_text};
 
 use crate::fault::RunFault;
 use lid_base::{Name, Sink};
@@ -39,9 +39,9 @@ impl Telling {
 
     /// Pushes the lines that were made, and clears them.
     fn push<O: Sink>(&mut self, out: &mut O) -> Result<(), RunFault>
-        ensures ok { OnOk result (Adds (O.written out.old) (O.written out.new) self.old.writer self.new.writer self.old.line.items) }
+        ensures ok { OnOk result (Adds O.written O.pieces out.old out.new self.old.writer self.new.writer self.old.line.items) }
         ensures none { OnOk result (self.new.line.items ≡ []) }
-        ensures err { OnErr result (Breaks (O.written out.old) (O.written out.new) self.old.writer self.old.line.items) }
+        ensures err { OnErr result (Breaks O.written O.pieces out.old out.new self.old.writer self.old.line.items) }
         ensures cause { IfErr result (IsTellCause (Rose (O.faults out.old) (O.faults out.new))) }
         ensures grows { O.faults out.old ≤ O.faults out.new }
     {
@@ -54,8 +54,8 @@ impl Telling {
 
     /// Pushes the lines that were made, and writes all that is held.
     pub(crate) fn finish<O: Sink>(&mut self, out: &mut O) -> Result<(), RunFault>
-        ensures ok { OnOk result (Closes (O.written out.old) (O.written out.new) self.old.writer self.old.line.items) }
-        ensures err { OnErr result (Breaks (O.written out.old) (O.written out.new) self.old.writer self.old.line.items) }
+        ensures ok { OnOk result (Closes O.written O.pieces out.old out.new self.old.writer self.old.line.items) }
+        ensures err { OnErr result (BreaksAtEnd O.written O.pieces out.old out.new self.old.writer self.old.line.items) }
         ensures cause { IfErr result (IsTellCause (Rose (O.faults out.old) (O.faults out.new))) }
         ensures grows { O.faults out.old ≤ O.faults out.new }
     {
@@ -75,9 +75,9 @@ impl Telling {
         out: &mut O,
     ) -> Result<(), RunFault>
         requires { self.old.line.items ≡ [] }
-        ensures ok { OnOk result (Adds (O.written out.old) (O.written out.new) self.old.writer self.new.writer (line_text (header_words columns.now))) }
+        ensures ok { OnOk result (Adds O.written O.pieces out.old out.new self.old.writer self.new.writer (line_text (header_words columns.now))) }
         ensures none { OnOk result (self.new.line.items ≡ []) }
-        ensures err { OnErr result (Breaks (O.written out.old) (O.written out.new) self.old.writer (line_text (header_words columns.now))) }
+        ensures err { OnErr result (Breaks O.written O.pieces out.old out.new self.old.writer (line_text (header_words columns.now))) }
         ensures cause { IfErr result (IsTellCause (Rose (O.faults out.old) (O.faults out.new))) }
         ensures grows { O.faults out.old ≤ O.faults out.new }
     {
@@ -95,9 +95,9 @@ impl Telling {
         out: &mut O,
     ) -> Result<(), RunFault>
         requires { self.old.line.items ≡ [] }
-        ensures ok { OnOk result (Adds (O.written out.old) (O.written out.new) self.old.writer self.new.writer (last_text columns.now (lent last.entry))) }
+        ensures ok { OnOk result (Adds O.written O.pieces out.old out.new self.old.writer self.new.writer (last_text columns.now (lent last.entry))) }
         ensures none { OnOk result (self.new.line.items ≡ []) }
-        ensures err { OnErr result (Breaks (O.written out.old) (O.written out.new) self.old.writer (last_text columns.now (lent last.entry))) }
+        ensures err { OnErr result (Breaks O.written O.pieces out.old out.new self.old.writer (last_text columns.now (lent last.entry))) }
         ensures cause { IfErr result (IsTellCause (Rose (O.faults out.old) (O.faults out.new))) }
         ensures grows { O.faults out.old ≤ O.faults out.new }
     {
@@ -115,9 +115,9 @@ impl Telling {
         out: &mut O,
     ) -> Result<(), RunFault>
         requires { self.old.line.items ≡ [] }
-        ensures ok { OnOk result (Adds (O.written out.old) (O.written out.new) self.old.writer self.new.writer (row_text columns.now row.now)) }
+        ensures ok { OnOk result (Adds O.written O.pieces out.old out.new self.old.writer self.new.writer (row_text columns.now row.now)) }
         ensures none { OnOk result (self.new.line.items ≡ []) }
-        ensures err { OnErr result (Breaks (O.written out.old) (O.written out.new) self.old.writer (row_text columns.now row.now)) }
+        ensures err { OnErr result (Breaks O.written O.pieces out.old out.new self.old.writer (row_text columns.now row.now)) }
         ensures cause { IfErr result (IsTellCause (Rose (O.faults out.old) (O.faults out.new))) }
         ensures grows { O.faults out.old ≤ O.faults out.new }
     {

@@ -38,10 +38,10 @@ fn tell_run<S: Shelf, O: Sink, R: Threads + Sync, G: Gate>(
     requires held { telling.old.writer ≡ [] }
     ensures ok { (r : ClockRun) (given : List (List Bool)) → IsRunOf r task.now.system.now task.now.columns.now
         → IsFed r (S.held shelf.old feed.old.name) run.old feed.old given
-        → OnOk result (HasRun r (O.written out.old) (O.written out.new)) }
+        → OnOk result (HasRun r O.written O.pieces out.old out.new) }
     ensures err { (r : ClockRun) (given : List (List Bool)) → IsRunOf r task.now.system.now task.now.columns.now
         → IsFed r (S.held shelf.old feed.old.name) run.old feed.old given
-        → IfErr result (HasStopped r (O.written out.old) (O.written out.new)
+        → IfErr result (HasStopped r O.written O.pieces out.old out.new
         (Rose (S.faults shelf.old feed.old.name) (S.faults shelf.new feed.old.name)) (Rose (O.faults out.old) (O.faults out.new))) }
     ensures kept { S.held shelf.new ≡ S.held shelf.old }
     ensures grows { (q : List ℕ) → S.faults shelf.old q ≤ S.faults shelf.new q }
@@ -73,10 +73,10 @@ fn tell_run<S: Shelf, O: Sink, R: Threads + Sync, G: Gate>(
 /// sink fired for it, and a piece is written as soon as 65,536 bytes are held.
 ///
 /// # Errors
-/// After a fault a first part of the text was written: of that of all rows that begin with those that the
-/// feed gave. `Feed` hands on the fault of the feed, where `Read` comes only where the count of its name
-/// rose in this call. `Few` tells how many rows the text has, where it ended without a fault after fewer
-/// rows. `Write` comes only where the count of `out` rose in this call. `Memory` may come at any text.
+/// After a fault a first part of the text was written, by some first of its pieces: of that of all rows that
+/// begin with those that the feed gave. `Feed` hands on the fault of the feed, where `Read` comes only where the
+/// count of its name rose in this call. `Few` tells how many rows the text has, where it ended without a fault
+/// after fewer rows. `Write` comes only where the count of `out` rose in this call. `Memory` may come at any text.
 pub fn run<S: Shelf, O: Sink, R: Threads + AllocGlobal + Sync, G: Gate>(
     shelf: &mut S,
     out: &mut O,
@@ -91,8 +91,8 @@ pub fn run<S: Shelf, O: Sink, R: Threads + AllocGlobal + Sync, G: Gate>(
     requires few { task.now.rows ≤ 1000000 }
     requires ascend { Ascend (listed stalls) }
     requires feeds { HasGiven (S.held shelf.old feed.old.name) (source_columns task.now.system.now) (length task.now.columns.now) feed.old [] }
-    ensures ok { OnOk result (HasRun (run_by task.now stalls (S.held shelf.old feed.old.name)) (O.written out.old) (O.written out.new)) }
-    ensures err { IfErr result (HasStopped (run_by task.now stalls (S.held shelf.old feed.old.name)) (O.written out.old) (O.written out.new)
+    ensures ok { OnOk result (HasRun (run_by task.now stalls (S.held shelf.old feed.old.name)) O.written O.pieces out.old out.new) }
+    ensures err { IfErr result (HasStopped (run_by task.now stalls (S.held shelf.old feed.old.name)) O.written O.pieces out.old out.new
         (Rose (S.faults shelf.old feed.old.name) (S.faults shelf.new feed.old.name)) (Rose (O.faults out.old) (O.faults out.new))) }
     ensures kept { S.held shelf.new ≡ S.held shelf.old }
     ensures grows { (q : List ℕ) → S.faults shelf.old q ≤ S.faults shelf.new q }

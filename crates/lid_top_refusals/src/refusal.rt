@@ -42,7 +42,7 @@ pub enum Refusal {
 
 /// Says the line of a refusal.
 pub fn say_refusal<E: Sink>(err: &mut E, refusal: &Refusal)
-    ensures { Says E.written E.faults err.old err.new (refusal_line refusal.now) }
+    ensures { Says E.written E.pieces E.faults err.old err.new (refusal_line refusal.now) }
 {
     match refusal {
         Refusal::Blif(fault) => say_told(err, "blif", told_of_blif(*fault)),
@@ -62,35 +62,35 @@ pub fn say_refusal<E: Sink>(err: &mut E, refusal: &Refusal)
 
 /// Says that the words are no job.
 pub fn say_usage<E: Sink>(err: &mut E)
-    ensures { Says E.written E.faults err.old err.new usage_line }
+    ensures { Says E.written E.pieces E.faults err.old err.new usage_line }
 {
     say(err, &[Word::Text("usage")]);
 }
 
 /// Says which file could not be read.
 pub fn say_read<E: Sink>(err: &mut E, file: &str)
-    ensures { Says E.written E.faults err.old err.new (read_line file.now) }
+    ensures { Says E.written E.pieces E.faults err.old err.new (read_line file.now) }
 {
     say(err, &[Word::Text("read"), Word::Text(file)]);
 }
 
 /// Says that the output could not be written.
 pub fn say_write<E: Sink>(err: &mut E)
-    ensures { Says E.written E.faults err.old err.new write_line }
+    ensures { Says E.written E.pieces E.faults err.old err.new write_line }
 {
     say(err, &[Word::Text("write")]);
 }
 
 /// Says that there was no memory.
 pub fn say_memory<E: Sink>(err: &mut E)
-    ensures { Says E.written E.faults err.old err.new memory_line }
+    ensures { Says E.written E.pieces E.faults err.old err.new memory_line }
 {
     say(err, &[Word::Text("memory")]);
 }
 
 /// Says that the certificate is none of the graph.
 pub fn say_denied<E: Sink>(err: &mut E)
-    ensures { Says E.written E.faults err.old err.new denied_line }
+    ensures { Says E.written E.pieces E.faults err.old err.new denied_line }
 {
     say(
         err,

@@ -13,7 +13,7 @@ use lid_base_io::{Word, tell};
 
 /// Writes a line of words. A sink that fails changes nothing else.
 pub fn say<E: Sink>(err: &mut E, words: &[Word<'_>])
-    ensures { Says E.written E.faults err.old err.new (fault_line (map spelled words.now)) }
+    ensures { Says E.written E.pieces E.faults err.old err.new (fault_line (map spelled words.now)) }
 {
     let _ = tell(err, words);
 }
@@ -39,7 +39,7 @@ fn which_name(which: Which) -> &'static str
 
 /// Says a refusal at a line.
 fn say_at<'a, E: Sink>(err: &mut E, stage: &'a str, name: &'a str, line: u32)
-    ensures { Says E.written E.faults err.old err.new (fault_line (stage.now ∷ at_line name.now line)) }
+    ensures { Says E.written E.pieces E.faults err.old err.new (fault_line (stage.now ∷ at_line name.now line)) }
 {
     say(
         err,
@@ -53,7 +53,7 @@ fn say_at<'a, E: Sink>(err: &mut E, stage: &'a str, name: &'a str, line: u32)
 
 /// Says that a limit is exceeded.
 fn say_limit<E: Sink>(err: &mut E, stage: &str, which: Which, count: u64)
-    ensures { Says E.written E.faults err.old err.new (fault_line (stage.now ∷ over_limit which count)) }
+    ensures { Says E.written E.pieces E.faults err.old err.new (fault_line (stage.now ∷ over_limit which count)) }
 {
     say(
         err,
@@ -68,7 +68,7 @@ fn say_limit<E: Sink>(err: &mut E, stage: &str, which: Which, count: u64)
 
 /// Says how many there are of what may not be so many.
 fn say_many<'a, E: Sink>(err: &mut E, stage: &'a str, fault: &'a str, count: u64)
-    ensures { Says E.written E.faults err.old err.new (fault_line (stage.now ∷ fault.now ∷ decimal count ∷ [])) }
+    ensures { Says E.written E.pieces E.faults err.old err.new (fault_line (stage.now ∷ fault.now ∷ decimal count ∷ [])) }
 {
     say(
         err,
@@ -78,7 +78,7 @@ fn say_many<'a, E: Sink>(err: &mut E, stage: &'a str, fault: &'a str, count: u64
 
 /// Says that rows were not the same at a second reading.
 fn say_changed<E: Sink>(err: &mut E, stage: &str, rows: u64, found: u64)
-    ensures { Says E.written E.faults err.old err.new (fault_line (stage.now ∷ codes "Changed" ∷ decimal rows ∷ decimal found ∷ [])) }
+    ensures { Says E.written E.pieces E.faults err.old err.new (fault_line (stage.now ∷ codes "Changed" ∷ decimal rows ∷ decimal found ∷ [])) }
 {
     say(
         err,
@@ -99,7 +99,7 @@ fn say_names<'a, E: Sink>(
     first: &'a Name,
     second: &'a Name,
 )
-    ensures { Says E.written E.faults err.old err.new (fault_line (stage.now ∷ with_names fault.now first.now second.now)) }
+    ensures { Says E.written E.pieces E.faults err.old err.new (fault_line (stage.now ∷ with_names fault.now first.now second.now)) }
 {
     say(
         err,
@@ -121,7 +121,7 @@ fn say_inst<'a, E: Sink>(
     inst: u32,
     name: &'a Name,
 )
-    ensures { Says E.written E.faults err.old err.new (fault_line (stage.now ∷ at_inst fault.now model.now inst name.now)) }
+    ensures { Says E.written E.pieces E.faults err.old err.new (fault_line (stage.now ∷ at_inst fault.now model.now inst name.now)) }
 {
     say(
         err,
@@ -137,7 +137,7 @@ fn say_inst<'a, E: Sink>(
 
 /// Says a refusal with one name.
 fn say_name<'a, E: Sink>(err: &mut E, stage: &'a str, fault: &'a str, name: &'a Name)
-    ensures { Says E.written E.faults err.old err.new (fault_line (stage.now ∷ fault.now ∷ name.now ∷ [])) }
+    ensures { Says E.written E.pieces E.faults err.old err.new (fault_line (stage.now ∷ fault.now ∷ name.now ∷ [])) }
 {
     say(
         err,
@@ -151,7 +151,7 @@ fn say_name<'a, E: Sink>(err: &mut E, stage: &'a str, fault: &'a str, name: &'a 
 
 /// Says that a column lies on a closed walk.
 fn say_loop<'a, E: Sink>(err: &mut E, stage: &'a str, path: &'a Items<u32>, name: &'a Name)
-    ensures { Says E.written E.faults err.old err.new (fault_line (stage.now ∷ codes "CombLoop" ∷ path_text path.now ∷ name.now ∷ [])) }
+    ensures { Says E.written E.pieces E.faults err.old err.new (fault_line (stage.now ∷ codes "CombLoop" ∷ path_text path.now ∷ name.now ∷ [])) }
 {
     say(
         err,
@@ -173,7 +173,7 @@ fn say_three<'a, E: Sink>(
     second: &'a Name,
     third: &'a Name,
 )
-    ensures { Says E.written E.faults err.old err.new (fault_line (stage.now ∷ fault.now ∷ first.now ∷ second.now ∷ third.now ∷ [])) }
+    ensures { Says E.written E.pieces E.faults err.old err.new (fault_line (stage.now ∷ fault.now ∷ first.now ∷ second.now ∷ third.now ∷ [])) }
 {
     say(
         err,
@@ -189,14 +189,14 @@ fn say_three<'a, E: Sink>(
 
 /// Says a refusal without fields.
 fn say_bare<'a, E: Sink>(err: &mut E, stage: &'a str, fault: &'a str)
-    ensures { Says E.written E.faults err.old err.new (fault_line (stage.now ∷ fault.now ∷ [])) }
+    ensures { Says E.written E.pieces E.faults err.old err.new (fault_line (stage.now ∷ fault.now ∷ [])) }
 {
     say(err, &[Word::Text(stage), Word::Text(fault)]);
 }
 
 /// Says what a refusal tells.
 pub fn say_told<'a, E: Sink>(err: &mut E, stage: &'a str, told: Told<'a>)
-    ensures { Says E.written E.faults err.old err.new (fault_line (stage.now ∷ told_words told.entry)) }
+    ensures { Says E.written E.pieces E.faults err.old err.new (fault_line (stage.now ∷ told_words told.entry)) }
 {
     match told {
         Told::Bare(fault) => say_bare(err, stage, fault),

@@ -111,12 +111,6 @@ module _ (held : List ℕ → Option (List ℕ)) (inner outer : Script) (w : Wit
   pub has_text : (text : List ℕ) → HasText held inner text → HasText held outer text
   has_text text h = record { output = h.output; ends = w.ends (gives h.output) h.ends; text_of = h.text_of }
 
-  all_written : (old new : Option (List ℕ)) → Writes held inner old new → Writes held outer old new
-  all_written old new h = record { text = h.text; has = has_text h.text h.has; appended = h.appended }
-
-  part_written : (old new : Option (List ℕ)) → WritesPrefix held inner old new → WritesPrefix held outer old new
-  part_written old new h = record { text = h.text; has = has_text h.text h.has; appended = h.appended }
-
   pub same_cause : (before mid after : List ℕ → ℕ) (stop : Stop) → ((q : List ℕ) → before q ≤ mid q) → IsCause held inner mid after stop → IsCause held outer before after stop
   same_cause before mid after (Refused refusal) grows c = w.ends (refuses (refusal_line refusal)) c
   same_cause before mid after (Read file) grows c = (w.reaches file.now c.0, rose_later (before file.now) (mid file.now) (after file.now) (grows file.now) c.1)
@@ -130,26 +124,32 @@ module _ (held : List ℕ → Option (List ℕ)) (inner outer : Script) (w : Wit
   all_told : TellsAll held outer → TellsAll held inner
   all_told tells file r = tells file (w.reaches file r)
 
-  module _ {O : Type 0} (written : O → Option (List ℕ)) (writes : O → ℕ) where
-    leaves : (old new : O) → Leaves true held inner written old new → Leaves true held outer written old new
+  module _ {O : Type 0} (written : O → Option (List ℕ)) (pieces : O → Option (List (List ℕ))) (writes : O → ℕ) where
+    all_written : (old new : O) → Writes held inner written pieces old new → Writes held outer written pieces old new
+    all_written old new h = record { text = h.text; has = has_text h.text h.has; appended = h.appended; came = h.came }
+
+    part_written : (old new : O) → WritesPrefix held inner written pieces old new → WritesPrefix held outer written pieces old new
+    part_written old new h = record { text = h.text; has = has_text h.text h.has; appended = h.appended; came = h.came }
+
+    leaves : (old new : O) → Leaves true held inner written pieces old new → Leaves true held outer written pieces old new
     leaves old new (inl same) = inl same
-    leaves old new (inr part) = inr (part_written (written old) (written new) part)
+    leaves old new (inr part) = inr (part_written old new part)
 
     -- the run of the inner script, after counts have grown
     runs_on : (before mid after : List ℕ → ℕ) (out out_after : O) (result : Result (Unit {0}) JobEnd) → ((q : List ℕ) → before q ≤ mid q)
-        → RunsEarly held inner mid after written writes out out_after result → RunsEarly held outer before after written writes out out_after result
+        → RunsEarly held inner mid after written pieces writes out out_after result → RunsEarly held outer before after written pieces writes out out_after result
     runs_on before mid after out out_after result grows r = record {
-      done = on_ok result (λ h. all_written (written out) (written out_after) h) r.done;
-      fails = if_err result (λ end h. same_end before mid after end grows (λ failed. (failed.0, part_written (written out) (written out_after) failed.1)) h) r.fails;
+      done = on_ok result (λ h. all_written out out_after h) r.done;
+      fails = if_err result (λ end h. same_end before mid after end grows (λ failed. (failed.0, part_written out out_after failed.1)) h) r.fails;
       left = if_err result (λ end h stopped. leaves out out_after (h stopped)) r.left;
       unwritten = if_err result (λ end h refused tells. h refused (all_told tells)) r.unwritten;
     }
 
 -- a run that writes while it runs, over the shelf that a step has left
-pub runs_within : {held now : List ℕ → Option (List ℕ)} {inner outer : Script} {O : Type 0} {before mid after : List ℕ → ℕ} {written : O → Option (List ℕ)} {writes : O → ℕ} {out out_after : O} {result : Result (Unit {0}) JobEnd} → Within held inner outer → now ≡ held
-    → ((q : List ℕ) → before q ≤ mid q) → RunsEarly now inner mid after written writes out out_after result → RunsEarly held outer before after written writes out out_after result
-runs_within {held = held} {inner = inner} {outer = outer} {before = before} {mid = mid} {after = after} {written = written} {writes = writes} {out = out} {out_after = out_after} {result = result} w same grows r =
-    runs_on held inner outer w written writes before mid after out out_after result grows (subst (λ (h : List ℕ → Option (List ℕ)). RunsEarly h inner mid after written writes out out_after result) same r)
+pub runs_within : {held now : List ℕ → Option (List ℕ)} {inner outer : Script} {O : Type 0} {before mid after : List ℕ → ℕ} {written : O → Option (List ℕ)} {pieces : O → Option (List (List ℕ))} {writes : O → ℕ} {out out_after : O} {result : Result (Unit {0}) JobEnd} → Within held inner outer → now ≡ held
+    → ((q : List ℕ) → before q ≤ mid q) → RunsEarly now inner mid after written pieces writes out out_after result → RunsEarly held outer before after written pieces writes out out_after result
+runs_within {held = held} {inner = inner} {outer = outer} {before = before} {mid = mid} {after = after} {written = written} {pieces = pieces} {writes = writes} {out = out} {out_after = out_after} {result = result} w same grows r =
+    runs_on held inner outer w written pieces writes before mid after out out_after result grows (subst (λ (h : List ℕ → Option (List ℕ)). RunsEarly h inner mid after written pieces writes out out_after result) same r)
 
 -- a whole run of the inner script, over the shelf that a step has left
 pub whole_within : {held now later : List ℕ → Option (List ℕ)} {inner outer : Script} {before mid after : List ℕ → ℕ} {result : Result (Vec ℕ Global) Stop} → Within held inner outer → now ≡ held
@@ -200,8 +200,8 @@ anywhere_given {output = output} {result = result} given wants = record {
 }
 
 -- the run stops before anything is written
-pub runs_stopped : {O : Type 0} {held : List ℕ → Option (List ℕ)} {script : Script} {before after : List ℕ → ℕ} {written : O → Option (List ℕ)} {writes : O → ℕ} {out : O} {stop : Stop}
-    → IsCause held script before after stop → RunsEarly held script before after written writes out out (Err (Stopped stop))
+pub runs_stopped : {O : Type 0} {held : List ℕ → Option (List ℕ)} {script : Script} {before after : List ℕ → ℕ} {written : O → Option (List ℕ)} {pieces : O → Option (List (List ℕ))} {writes : O → ℕ} {out : O} {stop : Stop}
+    → IsCause held script before after stop → RunsEarly held script before after written pieces writes out out (Err (Stopped stop))
 runs_stopped cause = record {
   done = tt;
   fails = cause;

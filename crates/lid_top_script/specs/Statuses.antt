@@ -1,7 +1,8 @@
 -- What each status of a run says.
 use Rattle.std.specs.Prelude.{◌≡◌, ◌≢◌, ℕ, ◌≤◌, Bool, true, false, List, Option, None, IsSome, IfSome, ◌⊎◌}
 use Rattle.lid_base.specs.declared.outside.Fetch.{Fetch}
-use Rattle.lid_base.specs.Outside.{Rose, Appended, AppendedPrefix}
+use Rattle.lid_base.specs.Outside.{Rose, Appended, AppendedPrefix, Came, CamePrefix}
+use Rattle.lid_base_io.specs.Calls.{pieces_of}
 use Rattle.lid_top_words.specs.declared.job.Job.{Job}
 use Rattle.lid_top_words.specs.declared.job.Job.TheVariants.{Check, Clock, Emit, Free, Gen, Place, Rate, Size, Slack, Strict, Unwave, Verify, Walk, Wave}
 use Rattle.lid_top_refusals.specs.Saying.{Says}
@@ -16,17 +17,21 @@ pub record HasText (held : List ℕ → Option (List ℕ)) (script : Script) (te
   pub ends : EndsIn held script (gives output)
   pub text_of : IsTextOf output text
 
--- the whole output was written
-pub record Writes (held : List ℕ → Option (List ℕ)) (script : Script) (old new : Option (List ℕ)) : Type 0 where
+-- the whole output was written, in its pieces
+pub record Writes {O : Type 0} (held : List ℕ → Option (List ℕ)) (script : Script)
+    (written : O → Option (List ℕ)) (pieces : O → Option (List (List ℕ))) (old new : O) : Type 0 where
   pub text : List ℕ
   pub has : HasText held script text
-  pub appended : Appended old new text
+  pub appended : Appended (written old) (written new) text
+  pub came : Came (pieces old) (pieces new) (pieces_of text)
 
--- a prefix of the output was written
-pub record WritesPrefix (held : List ℕ → Option (List ℕ)) (script : Script) (old new : Option (List ℕ)) : Type 0 where
+-- a prefix of the output was written, by some first of its pieces
+pub record WritesPrefix {O : Type 0} (held : List ℕ → Option (List ℕ)) (script : Script)
+    (written : O → Option (List ℕ)) (pieces : O → Option (List (List ℕ))) (old new : O) : Type 0 where
   pub text : List ℕ
   pub has : HasText held script text
-  pub appended : AppendedPrefix old new text
+  pub appended : AppendedPrefix (written old) (written new) text
+  pub came : CamePrefix (pieces old) (pieces new) (pieces_of text)
 
 -- the script may end in a refusal, and its line was said
 pub record SaysRefusal (held : List ℕ → Option (List ℕ)) (script : Script) (Said : List ℕ → Type 0) : Type 0 where
@@ -80,29 +85,30 @@ writes_early (Gen seed shells run) = false
 
 -- what stands in the output where it is not whole: what stood there before, but for a job that writes
 -- early, which may have written a prefix
-abbrev pub Leaves : {O : Type 0} → Bool → (List ℕ → Option (List ℕ)) → Script → (O → Option (List ℕ)) → O → O → Type 0
-Leaves false held script written old new = new ≡ old
-Leaves true held script written old new = (new ≡ old) ⊎ WritesPrefix held script (written old) (written new)
+abbrev pub Leaves : {O : Type 0} → Bool → (List ℕ → Option (List ℕ)) → Script
+    → (O → Option (List ℕ)) → (O → Option (List (List ℕ))) → O → O → Type 0
+Leaves false held script written pieces old new = new ≡ old
+Leaves true held script written pieces old new = (new ≡ old) ⊎ WritesPrefix held script written pieces old new
 
 -- what the run of a job shows. `Said` tells of each line whether it was said on the standard error;
--- shelves are seen by what they hold, by their fetches and by their counts, the output by what was written and its
--- count
+-- shelves are seen by what they hold, by their fetches and by their counts, the output by what was written, by the
+-- pieces of its writes and by its count
 pub record JobRun {S O : Type 0} (job : Job)
     (whole : Bool) (held : S → List ℕ → Option (List ℕ)) (fetches : S → Option (List Fetch)) (reads : S → List ℕ → ℕ) (shelf shelf_after : S)
-    (written : O → Option (List ℕ)) (writes : O → ℕ) (out out_after : O)
+    (written : O → Option (List ℕ)) (pieces : O → Option (List (List ℕ))) (writes : O → ℕ) (out out_after : O)
     (Said : List ℕ → Type 0) (status : ℕ) : Type 0 where
-  -- 0: the whole output was written
-  pub done : status ≡ 0 → Writes (held shelf) (script_of job) (written out) (written out_after)
+  -- 0: the whole output was written, in its pieces
+  pub done : status ≡ 0 → Writes (held shelf) (script_of job) written pieces out out_after
   -- 1: a reading, a check or a limit refuses
   pub refused : status ≡ 1 → SaysRefusal (held shelf) (script_of job) Said
   -- 3: a fetch of a file failed
   pub read : status ≡ 3 → SaysRead (held shelf) (script_of job) (reads shelf) (reads shelf_after) Said
-  -- 4: a write failed; a prefix of the output stands
-  pub write : status ≡ 4 → Rose (writes out) (writes out_after) × WritesPrefix (held shelf) (script_of job) (written out) (written out_after)
+  -- 4: a write failed; a prefix of the output stands, and some first of its pieces were written
+  pub write : status ≡ 4 → Rose (writes out) (writes out_after) × WritesPrefix (held shelf) (script_of job) written pieces out out_after
   -- 6: the certificate is none of the graph
   pub denied : status ≡ 6 → EndsIn (held shelf) (script_of job) denies
   -- 1, 3, 5, 6: the output is as it was, but for a job that writes early
-  pub left : status ≢ 0 → status ≢ 4 → Leaves (writes_early job) (held shelf) (script_of job) written out out_after
+  pub left : status ≢ 0 → status ≢ 4 → Leaves (writes_early job) (held shelf) (script_of job) written pieces out out_after
   -- 1: the output is as it was, for all jobs, where the shelf tells its contents
   pub unwritten : status ≡ 1 → TellsAll (held shelf) (script_of job) → out_after ≡ out
   -- where no count rose, the status is that of an ending of the script, or want of memory
@@ -115,21 +121,22 @@ pub record JobRun {S O : Type 0} (job : Job)
 -- what a run shows, by the job that its words ask for
 pub record Run {S O E : Type 0} (asked : Option Job)
     (whole : Bool) (held : S → List ℕ → Option (List ℕ)) (fetches : S → Option (List Fetch)) (reads : S → List ℕ → ℕ) (shelf shelf_after : S)
-    (written : O → Option (List ℕ)) (writes : O → ℕ) (out out_after : O)
-    (said : E → Option (List ℕ)) (errs : E → ℕ) (err err_after : E)
+    (written : O → Option (List ℕ)) (pieces : O → Option (List (List ℕ))) (writes : O → ℕ) (out out_after : O)
+    (said : E → Option (List ℕ)) (parts : E → Option (List (List ℕ))) (errs : E → ℕ) (err err_after : E)
     (status : ℕ) : Type 0 where
   pub most : status ≤ 6
   -- 2: the words are no job
   pub usage : status ≡ 2 → asked ≡ None
   -- words that are no job: nothing is fetched and nothing written
   pub no_job : asked ≡ None → ((status ≡ 2) ⊎ (status ≡ 5)) × (shelf_after ≡ shelf) × (out_after ≡ out)
-  pub ran : IfSome asked (λ job. JobRun job whole held fetches reads shelf shelf_after written writes out out_after (Says said errs err err_after) status)
+  pub ran : IfSome asked (λ job. JobRun job whole held fetches reads shelf shelf_after written pieces writes out out_after
+      (Says said parts errs err err_after) status)
   -- no fetch changes what is held
   pub kept : held shelf_after ≡ held shelf
   -- 0: nothing is said
   pub quiet : status ≡ 0 → err_after ≡ err
   -- the lines that tell no file and no refusal
-  pub says_usage : status ≡ 2 → Says said errs err err_after usage_line
-  pub says_write : status ≡ 4 → Says said errs err err_after write_line
-  pub says_memory : status ≡ 5 → Says said errs err err_after memory_line
-  pub says_denied : status ≡ 6 → Says said errs err err_after denied_line
+  pub says_usage : status ≡ 2 → Says said parts errs err err_after usage_line
+  pub says_write : status ≡ 4 → Says said parts errs err err_after write_line
+  pub says_memory : status ≡ 5 → Says said parts errs err err_after memory_line
+  pub says_denied : status ≡ 6 → Says said parts errs err err_after denied_line

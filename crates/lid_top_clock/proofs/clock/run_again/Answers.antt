@@ -23,7 +23,7 @@ returns-in-Ok-run-clause-ran g c = λ rows counted.
     let has = table_of c.wrapped.inside.checked (judged_of _ e.formed e.accepted.models) e.accepted.loops in
     let inside = subst (λ (w : Wrapping). IsCounted held a w c.args.given.rows rows) (sym c.wrapped.view_is) counted in
     runs_outside a c.args.given.stalls rows c.wrapped.view_is
-    (runs_whole _ _ _ _ a.vec _ _ _ _ is.of is.system is.fits c.args.given.few has inside.0 inside.1 _ _ _ _ _ _ c.outputs-2.ensures.names c.in-Ok.ensures.name c.in-Ok-run.ensures.ok)
+    (runs_whole _ _ _ _ a.vec _ _ _ _ is.of is.system is.fits c.args.given.few has inside.0 inside.1 _ _ _ _ _ _ _ c.outputs-2.ensures.names c.in-Ok.ensures.name c.in-Ok-run.ensures.ok)
 
 pub returns-clause-ran : goal.returns-clause-ran
 returns-clause-ran g c = λ rows counted.
@@ -34,4 +34,4 @@ returns-clause-ran g c = λ rows counted.
     let has = table_of c.wrapped.inside.checked (judged_of _ e.formed e.accepted.models) e.accepted.loops in
     let inside = subst (λ (w : Wrapping). IsCounted held a w c.args.given.rows rows) (sym c.wrapped.view_is) counted in
     runs_outside a c.args.given.stalls rows c.wrapped.view_is
-    (runs_in_part _ _ _ _ a.vec _ _ _ _ is.of is.system is.fits c.args.given.few has inside.0 inside.1 _ _ _ _ _ _ c.in-Err.fault c.run_end.ensures c.outputs-2.ensures.names c.in-Ok.ensures.name c.in-Err.ensures.err)
+    (runs_in_part _ _ _ _ a.vec _ _ _ _ is.of is.system is.fits c.args.given.few has inside.0 inside.1 _ _ _ _ _ _ _ c.in-Err.fault c.run_end.ensures c.outputs-2.ensures.names c.in-Ok.ensures.name c.in-Err.ensures.err)

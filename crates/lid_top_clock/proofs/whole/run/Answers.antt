@@ -13,7 +13,7 @@ returns-in-Err-clause-err g c =
     record {
       rows = [];
       given = none_given run;
-      told = λ l b. part_of_none run c.requires.ascend [] l b (g.O.Sink.written c.args.out.now);
+      told = λ l b. part_of_none g.O.Sink.written g.O.Sink.pieces run c.requires.ascend [] l b c.args.out.now;
       cause =
           cause_later run [] reads reads (Rose (g.O.Sink.faults c.args.out.now) (g.O.Sink.faults c.args.out.now)) ⊥ c.in-Err.fault (λ rose. rose) (λ none. absurd none)
           (c.in-Err.ensures.err run refl refl refl c.requires.feeds);
@@ -25,7 +25,7 @@ returns-in_default-clause-err g c =
     record {
       rows = [];
       given = none_given run;
-      told = λ l b. part_of_none run c.requires.ascend [] l b (g.O.Sink.written c.args.out.now);
+      told = λ l b. part_of_none g.O.Sink.written g.O.Sink.pieces run c.requires.ascend [] l b c.args.out.now;
       cause = tt;
     }
 
@@ -55,7 +55,7 @@ returns-clause-err g c =
     let name = c.args.feed.now.name in
     if_err c.tell_run.result
     (λ fault stopped.
-    stopped_later run (g.O.Sink.written c.args.out.now) (g.O.Sink.written c.tell_run.new.out) (Rose (first name) (new name)) (Rose (old c.start.new.feed.name) (new c.start.new.feed.name)) (Rose (g.O.Sink.faults c.args.out.now) (g.O.Sink.faults c.tell_run.new.out)) fault
+    stopped_later g.O.Sink.written g.O.Sink.pieces run c.args.out.now c.tell_run.new.out (Rose (first name) (new name)) (Rose (old c.start.new.feed.name) (new c.start.new.feed.name)) (Rose (g.O.Sink.faults c.args.out.now) (g.O.Sink.faults c.tell_run.new.out)) fault
     (λ rose. rose_later (first name) (old name) (new name) (c.in-Ok.ensures.grows name) (subst (λ n. Rose (old n) (new n)) c.in-Ok.ensures.name rose))
     stopped)
     (c.tell_run.ensures.err run has.0 (record { of = refl; named = refl }) (record { told = same; running = has.1; feeds = has.2 }))

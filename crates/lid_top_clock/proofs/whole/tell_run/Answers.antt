@@ -14,7 +14,7 @@ returns-in-Err-clause-err g c = λ r given of fed.
     record {
       rows = given;
       given = fed.running.rows;
-      told = λ l b. header_breaks r fed.running.rules.ascend given l b c.args.task.now.columns.now of.named (g.O.Sink.written c.args.out.now) (g.O.Sink.written c.tell_header.new.out) c.args.telling.now.writer c.requires.held c.in-Err.ensures.err;
+      told = λ l b. header_breaks g.O.Sink.written g.O.Sink.pieces r fed.running.rules.ascend given l b c.args.task.now.columns.now of.named c.args.out.now c.tell_header.new.out c.args.telling.now.writer c.requires.held c.in-Err.ensures.err;
       cause = cause_of_telling r given (Rose (g.S.Shelf.faults c.args.shelf.now c.args.feed.now.name) (g.S.Shelf.faults c.args.shelf.now c.args.feed.now.name)) (Rose (g.O.Sink.faults c.args.out.now) (g.O.Sink.faults c.tell_header.new.out)) (Rose (g.O.Sink.faults c.args.out.now) (g.O.Sink.faults c.tell_header.new.out)) c.in-Err.fault (λ rose. rose) c.in-Err.ensures.cause;
     }
 
@@ -25,9 +25,9 @@ loop-run-init g c =
         given = given;
         fed = fed;
         told = λ l b.
-            subst (λ (k : ℕ). HasPushed (g.O.Sink.written c.args.out.now) (g.O.Sink.written c.tell_header.new.out) c.tell_header.new.self.writer (rows_text r.columns (first_outputs l (fired_after l k (sink l)))))
+            subst (λ (k : ℕ). HasPushed g.O.Sink.written g.O.Sink.pieces c.args.out.now c.tell_header.new.out c.tell_header.new.self.writer (rows_text r.columns (first_outputs l (fired_after l k (sink l)))))
             (sym c.requires.none)
-            (header_told r fed.running.rules.ascend given l b c.args.task.now.columns.now of.named (g.O.Sink.written c.args.out.now) (g.O.Sink.written c.tell_header.new.out) c.args.telling.now.writer c.tell_header.new.self.writer c.requires.held c.in_default.ensures.ok);
+            (header_told g.O.Sink.written g.O.Sink.pieces r fed.running.rules.ascend given l b c.args.task.now.columns.now of.named c.args.out.now c.tell_header.new.out c.args.telling.now.writer c.tell_header.new.self.writer c.requires.held c.in_default.ensures.ok);
         line = c.in_default.ensures.none;
       };
       name = refl;
@@ -40,7 +40,7 @@ pub go-requires-clause-fed : goal.go-requires-clause-fed
 go-requires-clause-fed g c κs within =
     let start = c.requires.fed in
     let t = c.loop-run.invariant.telling start.0 start.1 start.2 start.3 in
-    (start.0, t.given, t.fed, goes_on start.0 _ _ _ _ _ _ t _ c.below.ensures c.loop-run-test.true)
+    (start.0, t.given, t.fed, goes_on g.O.Sink.written g.O.Sink.pieces start.0 _ _ _ _ _ _ t _ c.below.ensures c.loop-run-test.true)
 
 pub returns-in-Err-go-clause-err : goal.returns-in-Err-go-clause-err
 returns-in-Err-go-clause-err g c = λ r given of fed.
@@ -52,26 +52,26 @@ returns-in-Err-go-clause-err g c = λ r given of fed.
     record {
       rows = t.given;
       given = t.fed.running.rows;
-      told = told_part r _ _ _ _ _ _ t;
+      told = told_part g.O.Sink.written g.O.Sink.pieces r _ _ _ _ _ _ t;
       cause =
           cause_later r t.given (Rose (first c.args.feed.now.name) (new c.args.feed.now.name)) (Rose (old c.loop-run.feed.name) (new c.loop-run.feed.name)) (Rose (g.O.Sink.faults c.args.out.now) (g.O.Sink.faults c.loop-run.out)) ⊥ c.in-Err-go.fault
           (λ rose. rose_later (first c.args.feed.now.name) (old c.args.feed.now.name) (new c.args.feed.now.name) (c.loop-run.invariant.grows c.args.feed.now.name) (subst (λ n. Rose (old n) (new n)) name rose))
           (λ none. absurd none)
-          (c.in-Err-go.ensures.err r t.given t.fed (goes_on r _ _ _ _ _ _ t _ c.below.ensures c.loop-run-test.true));
+          (c.in-Err-go.ensures.err r t.given t.fed (goes_on g.O.Sink.written g.O.Sink.pieces r _ _ _ _ _ _ t _ c.below.ensures c.loop-run-test.true));
     }
 
 pub returns-in-Err-tell_last-clause-err : goal.returns-in-Err-tell_last-clause-err
 returns-in-Err-tell_last-clause-err g c = λ r given of fed.
     let t = c.loop-run.invariant.telling r given of fed in
     let made = c.loop-run.run.made in
-    let gone = c.in_default-go.ensures.ok r t.given t.fed (goes_on r _ _ _ _ _ _ t _ c.below.ensures c.loop-run-test.true) in
+    let gone = c.in_default-go.ensures.ok r t.given t.fed (goes_on g.O.Sink.written g.O.Sink.pieces r _ _ _ _ _ _ t _ c.below.ensures c.loop-run-test.true) in
     record {
       rows = gone.given;
       given = gone.running.rows;
       told = λ l b.
-          last_breaks r gone.running.rules.ascend gone.given l b made (lent c.last.result)
+          last_breaks g.O.Sink.written g.O.Sink.pieces r gone.running.rules.ascend gone.given l b made (lent c.last.result)
           (subst (λ (k : ℕ). IsLast l k (lent c.last.result)) gone.one (c.last.ensures l c.go.new.self.made (length gone.given) (gone.running.lives l b).ran))
-          (g.O.Sink.written c.args.out.now) (g.O.Sink.written c.loop-run.out) (g.O.Sink.written c.tell_last.new.out) c.loop-run.telling.writer (t.told l (gone.further l b)) c.args.task.now.columns.now of.named c.in-Err-tell_last.ensures.err;
+          c.args.out.now c.loop-run.out c.tell_last.new.out c.loop-run.telling.writer (t.told l (gone.further l b)) c.args.task.now.columns.now of.named c.in-Err-tell_last.ensures.err;
       cause =
           cause_of_telling r gone.given (Rose (g.S.Shelf.faults c.args.shelf.now c.args.feed.now.name) (g.S.Shelf.faults c.go.new.shelf c.args.feed.now.name)) (Rose (g.O.Sink.faults c.loop-run.out) (g.O.Sink.faults c.tell_last.new.out)) (Rose (g.O.Sink.faults c.args.out.now) (g.O.Sink.faults c.tell_last.new.out)) c.in-Err-tell_last.fault
           (λ rose. rose_later (g.O.Sink.faults c.args.out.now) (g.O.Sink.faults c.loop-run.out) (g.O.Sink.faults c.tell_last.new.out) c.loop-run.invariant.rises rose) c.in-Err-tell_last.ensures.cause;
@@ -85,7 +85,7 @@ loop-run-smaller g c =
     let start = c.requires.fed in
     let t = c.loop-run.invariant.telling start.0 start.1 start.2 start.3 in
     let made = c.loop-run.run.made in
-    let goes = goes_on start.0 _ _ _ _ _ _ t _ c.below.ensures c.loop-run-test.true in
+    let goes = goes_on g.O.Sink.written g.O.Sink.pieces start.0 _ _ _ _ _ _ t _ c.below.ensures c.loop-run-test.true in
     let gone = c.in_default-go.ensures.ok start.0 t.given t.fed goes in
     smaller made c.go.new.self.made gone.one gone.few
 
@@ -95,7 +95,7 @@ loop-run-preserved g c =
       telling = λ r given of fed.
           let t = c.loop-run.invariant.telling r given of fed in
           let made = c.loop-run.run.made in
-          let gone = c.in_default-go.ensures.ok r t.given t.fed (goes_on r _ _ _ _ _ _ t _ c.below.ensures c.loop-run-test.true) in
+          let gone = c.in_default-go.ensures.ok r t.given t.fed (goes_on g.O.Sink.written g.O.Sink.pieces r _ _ _ _ _ _ t _ c.below.ensures c.loop-run-test.true) in
           record {
             given = gone.given;
             fed = record {
@@ -104,11 +104,11 @@ loop-run-preserved g c =
               feeds = gone.feeds;
             };
             told = λ l b.
-                subst (λ (k : ℕ). HasPushed (g.O.Sink.written c.args.out.now) (g.O.Sink.written c.tell_last.new.out) c.tell_last.new.self.writer (rows_text r.columns (first_outputs l (fired_after l k (sink l)))))
+                subst (λ (k : ℕ). HasPushed g.O.Sink.written g.O.Sink.pieces c.args.out.now c.tell_last.new.out c.tell_last.new.self.writer (rows_text r.columns (first_outputs l (fired_after l k (sink l)))))
                 (sym gone.one)
-                (last_told r gone.running.rules.ascend gone.given l b made (lent c.last.result)
+                (last_told g.O.Sink.written g.O.Sink.pieces r gone.running.rules.ascend gone.given l b made (lent c.last.result)
                 (subst (λ (k : ℕ). IsLast l k (lent c.last.result)) gone.one (c.last.ensures l c.go.new.self.made (length gone.given) (gone.running.lives l b).ran))
-                (g.O.Sink.written c.args.out.now) (g.O.Sink.written c.loop-run.out) (g.O.Sink.written c.tell_last.new.out) c.loop-run.telling.writer (t.told l (gone.further l b)) c.args.task.now.columns.now of.named c.tell_last.new.self.writer c.in_default-tell_last.ensures.ok);
+                c.args.out.now c.loop-run.out c.tell_last.new.out c.loop-run.telling.writer (t.told l (gone.further l b)) c.args.task.now.columns.now of.named c.tell_last.new.self.writer c.in_default-tell_last.ensures.ok);
             line = c.in_default-tell_last.ensures.none;
           };
       name = c.in_default-go.ensures.name ∙ c.loop-run.invariant.name;
@@ -129,7 +129,7 @@ returns-in_default-append_end-clause-err g c = λ r given of fed.
     record {
       rows = t.given;
       given = t.fed.running.rows;
-      told = told_part r _ _ _ _ _ _ t;
+      told = told_part g.O.Sink.written g.O.Sink.pieces r _ _ _ _ _ _ t;
       cause = tt;
     }
 
@@ -141,7 +141,7 @@ returns-clause-ok g c = λ r given of fed.
       rows = t.given;
       given = t.fed.running.rows;
       told =
-          over_told r _ _ _ _ _ _ t _ c.below.ensures c.loop-run-test.false (g.O.Sink.written c.finish.new.out) c.append_end.new.into.items
+          over_told g.O.Sink.written g.O.Sink.pieces r _ _ _ _ _ _ t _ c.below.ensures c.loop-run-test.false c.finish.new.out c.append_end.new.into.items
           (λ l b. c.in-Ok.ensures r t.given l t.fed.running b (c.len.ensures ∙ ap (λ s. length s.nodes) (sym of.of)) ∙ ap (λ (xs : List ℕ). xs ++ end_text l r.stalls r.trace c.loop-run.run.made) t.line) close;
     })
     c.finish.ensures.ok
@@ -154,7 +154,7 @@ returns-clause-err g c = λ r given of fed.
       rows = t.given;
       given = t.fed.running.rows;
       told =
-          over_breaks r _ _ _ _ _ _ t _ c.below.ensures c.loop-run-test.false (g.O.Sink.written c.finish.new.out) c.append_end.new.into.items
+          over_breaks g.O.Sink.written g.O.Sink.pieces r _ _ _ _ _ _ t _ c.below.ensures c.loop-run-test.false c.finish.new.out c.append_end.new.into.items
           (λ l b. c.in-Ok.ensures r t.given l t.fed.running b (c.len.ensures ∙ ap (λ s. length s.nodes) (sym of.of)) ∙ ap (λ (xs : List ℕ). xs ++ end_text l r.stalls r.trace c.loop-run.run.made) t.line) break;
       cause =
           cause_of_telling r t.given (Rose (g.S.Shelf.faults c.args.shelf.now c.args.feed.now.name) (g.S.Shelf.faults c.loop-run.shelf c.args.feed.now.name)) (Rose (g.O.Sink.faults c.loop-run.out) (g.O.Sink.faults c.finish.new.out)) (Rose (g.O.Sink.faults c.args.out.now) (g.O.Sink.faults c.finish.new.out)) fault

@@ -8,7 +8,7 @@ use Rattle.lid_top_clock.proofs.whole.tell_run.Given as goal
 abbrev pub invariant-loop-run : goal.invariant-loop-run
 invariant-loop-run g l = record {
   telling : (r : ClockRun) (given : List (List Bool)) → IsRunOf r l.fn.task.system.now l.fn.task.columns.now → IsFed r (g.S.Shelf.held l.fn.shelf l.fn.feed.name) l.fn.run l.fn.feed given
-      → IsTelling r (g.S.Shelf.held l.shelf l.feed.name) l.run l.feed l.telling (g.O.Sink.written l.fn.out) (g.O.Sink.written l.out);
+      → IsTelling g.O.Sink.written g.O.Sink.pieces r (g.S.Shelf.held l.shelf l.feed.name) l.run l.feed l.telling l.fn.out l.out;
   name : l.feed.name ≡ l.fn.feed.name;
   kept : g.S.Shelf.held l.shelf ≡ g.S.Shelf.held l.fn.shelf;
   grows : (q : List ℕ) → g.S.Shelf.faults l.fn.shelf q ≤ g.S.Shelf.faults l.shelf q;
