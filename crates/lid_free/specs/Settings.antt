@@ -1,6 +1,5 @@
--- Serves the bodies: what a free run is set out with.
-use Rattle.std.specs.Prelude.{◌≡◌, ℕ, ◌+◌, ◌*◌, ◌/◌, ◌%◌, ◌<◌, ◌≤◌, ◌==◌, if◌then◌else◌, false, List, [], length, get_or, Some, slice_get, vec_capacity, replicate}
-use Rattle.lid_base.specs.declared.runs.Tally.{Tally}
+-- What a free run is set out with.
+use Rattle.std.specs.Prelude.{◌≡◌, ℕ, ◌*◌, ◌/◌, ◌%◌, ◌<◌, ◌≤◌, ◌==◌, if◌then◌else◌, false, List, [], length, get_or, Some, slice_get, vec_capacity}
 use Rattle.lid_system.specs.declared.System.{System}
 use Rattle.lid_station.specs.Boards.{fill, drain}
 use Rattle.lid_station.specs.declared.pair.Pair.{Pair}
@@ -8,12 +7,11 @@ use Rattle.lid_stations.specs.declared.placement.Placement.{Placement}
 use Rattle.lid_stations.specs.Placements.{Links, links_of}
 use Rattle.lid_stations.specs.Stations.{filler, drainer}
 use Rattle.lid_board.specs.Owners.{IsOf, ends_of, start_ends}
-use Rattle.lid_board.specs.Relation.{capacity_of}
 use Rattle.lid_board.specs.Standing.{AreStreamsOf}
 use Rattle.lid_board.specs.Views.{at}
 use Rattle.lid_board.specs.declared.board.Board.{Board}
 use Rattle.lid_board.specs.declared.view.EndFacts.{EndFacts}
-use Rattle.lid_walk_machine.specs.Plans.{Plan, actors_of, stations_of, start_of, room_of, stream}
+use Rattle.lid_walk_machine.specs.Plans.{actors_of, stations_of, start_of, room_of, stream}
 use Rattle.lid_walk_machine.specs.Setups.{plan}
 use Rattle.lid_shell_laws.specs.Setups.{Setup, IsSetup}
 use Rattle.lid_walk_machine.specs.Machine.{begun}
@@ -102,8 +100,9 @@ pub record IsCrewOf (m : Setup) (board : Board) (workers : ℕ) (c : Crew) : Typ
   pub none : c.back.items ≡ []
   pub capacity : c.actors ≤ vec_capacity c.back
 
--- all that a run needs
+-- all that a run of a setup on so many workers needs
 pub record IsSetOut (m : Setup) (workers : ℕ) (s : Setting) : Type 0 where
   pub given : AreEndsGiven m s.boards
   pub crew : IsCrewOf m s.boards.board workers s.crew
   pub room : IsRoomFor workers (actors_of (plan m)) (stations_of (plan m)) s.room
+  pub rows : length m.input ≡ s.rows
