@@ -1,4 +1,4 @@
--- Serves the bodies: what a free run is set out with.
+-- What a free run is set out with.
 use Rattle.std.specs.Prelude.{◌≡◌, ℕ, ◌≤◌, List, [], length, Some, slice_get, vec_capacity}
 use Rattle.lid_station.specs.declared.pair.Pair.{Pair}
 use Rattle.lid_board.specs.Owners.{IsOf, ends_of, start_ends}
@@ -47,8 +47,9 @@ pub record IsCrewOf (m : Setup) (board : Board) (workers : ℕ) (c : Crew) : Typ
   pub none : c.back.items ≡ []
   pub capacity : c.actors ≤ vec_capacity c.back
 
--- all that a run needs
+-- all that a run of a setup on so many workers needs
 pub record IsSetOut (m : Setup) (workers : ℕ) (s : Setting) : Type 0 where
   pub given : AreEndsGiven m s.boards
   pub crew : IsCrewOf m s.boards.board workers s.crew
   pub room : IsRoomFor workers (actors_of (plan m)) (stations_of (plan m)) s.room
+  pub rows : length m.input ≡ s.rows

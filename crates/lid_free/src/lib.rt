@@ -10,4 +10,5 @@ mod setting;
 
 pub use course::StrictCourse;
 pub use lid_free_crew::{Worker, work};
-pub use run::{FreeEnd, free_run};
+pub use run::{FreeEnd, free_run, run_out};
+pub use setting::{Setting, set_out};

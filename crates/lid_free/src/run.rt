@@ -4,17 +4,15 @@ ghost use Rattle.std.specs.Prelude.{◌≡◌, ◌<◌, ◌≤◌, ◌^◌, ℕ,
 ghost use Rattle.std.specs.List.{AllByRecursion};
 ghost use Rattle.lid_system.specs.Systems.{IsWellFormed};
 ghost use Rattle.lid_stations.specs.Placements.{Fits};
-ghost use Rattle.lid_walk_machine.specs.Setups.{plan};
 ghost use Rattle.lid_shell_laws.specs.Setups.{Setup, IsInputRow};
 ghost use Rattle.lid_walk.specs.Setups.{IsSetupOf};
 ghost use Rattle.lid_free.specs.Gathering.{AreGathered};
 ghost use Rattle.lid_free.specs.Settings.{IsSetOut};
-ghost use Rattle.lid_free.specs.FreeRuns.{IsFreeEnd, rounds_made};
+ghost use Rattle.lid_free.specs.FreeRuns.{IsFreeEnd};
 ghost use Rattle.lid_free.specs.Endings.{IsEnding};
 
 use crate::ending::settle;
 use crate::gathering::{Left, gather, note_fired, note_passed, run_all};
-use crate::rules::runs_go_by_rules;
 use crate::setting::{Room, Setting, set_out};
 use lid_base::{Gate, Items, Tally};
 use lid_stations::Placement;
@@ -68,22 +66,24 @@ fn end_run(left: Left<'_>, mut room: Room) -> FreeEnd
     }
 }
 
-/// Runs what was set out, over so many rows.
-fn run_out<R: Threads + Sync, G: Gate>(
+/// Runs what was set out: each worker makes so many rounds, at most 1,000,000, in a thread of its own, all at once over
+/// one shared board; it passes the gate before each. Then all ends are gathered, and sweeps are made until every actor is
+/// at its cap. Without rows no worker is started and no sweep is made. It takes no memory.
+pub fn run_out<R: Threads + Sync, G: Gate>(
     rt: &R,
     setting: Setting<'_>,
-    rows: usize,
     rounds: u64,
     gate: &G,
 ) -> FreeEnd
-    requires some { (m : Setup) × (workers : ℕ) × IsSetOut m workers setting × (length m.input ≡ rows) }
+    requires some { (m : Setup) × (workers : ℕ) × IsSetOut m workers setting }
     requires few { rounds ≤ 1000000 }
-    ensures { (m : Setup) (workers : ℕ) → IsSetOut m workers setting.entry → length m.input ≡ rows → IsEnding m workers (rounds_made (plan m) rounds) result }
+    ensures { (m : Setup) (workers : ℕ) → IsSetOut m workers setting.entry → IsFreeEnd m workers rounds result }
 {
     let Setting {
         boards,
         mut crew,
         mut room,
+        rows,
     } = setting;
     run_all(
         rt,
@@ -101,7 +101,8 @@ fn run_out<R: Threads + Sync, G: Gate>(
 /// Actor a belongs to worker a mod the number of workers, 1 to 64. Each worker makes so many rounds, at most
 /// 1,000,000, in a thread of its own, all at once over one shared board; it passes the gate before each. Then all ends
 /// are gathered, and sweeps are made until every actor is at its cap. Without rows no worker is started and no sweep is
-/// made. All memory is taken before a thread is started.
+/// made. All memory is taken before a thread is started: what is set out by [`set_out`] is run by [`run_out`], which
+/// takes none.
 ///
 /// # Errors
 /// Memory is wanting.
@@ -123,7 +124,6 @@ pub fn free_run<R: Threads + Sync, G: Gate>(
     requires rounds { rounds ≤ 1000000 }
     ensures { IfOk result (λ end. (m : Setup) → IsSetupOf m system.now placement.now rows.now.bits → IsFreeEnd m workers rounds end) }
 {
-    runs_go_by_rules();
     let setting = set_out(alloc, system, placement, rows, workers)?;
-    Ok(run_out(rt, setting, rows.bits.len(), rounds, gate))
+    Ok(run_out(rt, setting, rounds, gate))
 }

@@ -179,16 +179,23 @@ fn start_crew<'r>(
     })
 }
 
-/// What a run is set out with.
+/// A free run that was set out: all that it needs. It holds all memory that it will take.
 #[derive(Drop)]
-pub(crate) struct Setting<'r> {
+pub struct Setting<'r> {
     pub(crate) boards: Boards,
     pub(crate) crew: Crew<'r>,
     pub(crate) room: Room,
+    /// How many input rows there are.
+    pub(crate) rows: usize,
 }
 
-/// Sets a run out: takes all memory that it needs.
-pub(crate) fn set_out<'r>(
+/// Sets out a free run of a system with its stations over input rows, at most 1,000,000 and each as wide as the
+/// source, on so many workers: takes all memory that it needs. Actor a belongs to worker a mod the number of
+/// workers.
+///
+/// # Errors
+/// Memory is wanting.
+pub fn set_out<'r>(
     alloc: Global,
     system: &System,
     placement: &Placement,
@@ -200,10 +207,17 @@ pub(crate) fn set_out<'r>(
     requires few { length rows.now.bits ≤ 1000000 }
     requires wide { AllByRecursion (IsInputRow system.now) rows.now.bits }
     requires some { 0 < workers }
-    ensures { IfOk result (λ setting. (m : Setup) → IsSetupOf m system.now placement.now rows.now.bits → IsSetOut m workers setting) }
+    ensures setup { OnOk result ((m : Setup) × IsSetupOf m system.now placement.now rows.now.bits) }
+    ensures set { IfOk result (λ setting. (m : Setup) → IsSetupOf m system.now placement.now rows.now.bits → IsSetOut m workers setting) }
 {
+    runs_go_by_rules();
     let mut boards = start_boards(alloc, system, placement, rows)?;
     let crew = start_crew(alloc, system, placement, rows, &mut boards, workers)?;
     let room = crew.room(alloc, workers, placement.caps.len())?;
-    Ok(Setting { boards, crew, room })
+    Ok(Setting {
+        boards,
+        crew,
+        room,
+        rows: rows.bits.len(),
+    })
 }
