@@ -145,7 +145,7 @@ pub as_needed : FetchesAsNeeded
 as_needed whole held columns outs first now feed given has so = by_count whole held columns outs feed.name first now given feed.text feed.text.count (reverse feed.rows.items) has.knows so
 
 -- fetches that fewer rows need, more rows need
-needed_for : (held : Option (List ℕ)) (columns : List (List ℕ)) (outs few many : ℕ) (calls : List Fetch) → few ≤ many → AreNeeded held columns outs (Some few) calls → AreNeeded held columns outs (Some many) calls
+pub needed_for : (held : Option (List ℕ)) (columns : List (List ℕ)) (outs few many : ℕ) (calls : List Fetch) → few ≤ many → AreNeeded held columns outs (Some few) calls → AreNeeded held columns outs (Some many) calls
 needed_for None columns outs few many calls least needs = tt
 needed_for (Some file) columns outs few many calls least needs =
     all_weaker (λ (call : Fetch). length (ended_rows columns outs (take call.at file)) < few) (λ (call : Fetch). length (ended_rows columns outs (take call.at file)) < many) calls (λ call less. omega (arith, less, least)) needs
