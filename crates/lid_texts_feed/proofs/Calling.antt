@@ -93,14 +93,22 @@ module _ (Also : List Fetch → Type 0) (whole : Bool) (held : Option (List ℕ)
         gives w = subst (λ (k : ℕ). IfSome held (λ file. n ≡ min k (length file - length bytes))) is (given whole held bytes more room n size next w)
 
         by : (b : Bool) → nat_lt 0 n ≡ b → CameSo Also whole held name at first new b
-        by true e =
-            (with_one, came_too,
-            (subst (λ (k : ℕ). FetchesSoFar whole held name most_bytes k with_one) (sym there) (going_on whole held name most_bytes (length bytes) so.0 within so.2.0 n (some_of n e) (omega arith) gives),
-            grows so.0 so.2.1))
-        by false e =
-            (with_one, came_too,
-            (going_ended whole held name most_bytes (length bytes) so.0 within so.2.0 (subst (λ (k : ℕ). whole ≡ true → IfSome held (λ file. k ≡ min (min 65536 (most_bytes + 1 - length bytes)) (length file - length bytes))) (none_of n e) gives),
-            grows so.0 so.2.1))
+        by true e = (
+          with_one,
+          came_too,
+          (
+            subst (λ (k : ℕ). FetchesSoFar whole held name most_bytes k with_one) (sym there) (going_on whole held name most_bytes (length bytes) so.0 within so.2.0 n (some_of n e) (omega arith) gives),
+            grows so.0 so.2.1,
+          ),
+        )
+        by false e = (
+          with_one,
+          came_too,
+          (
+            going_ended whole held name most_bytes (length bytes) so.0 within so.2.0 (subst (λ (k : ℕ). whole ≡ true → IfSome held (λ file. k ≡ min (min 65536 (most_bytes + 1 - length bytes)) (length file - length bytes))) (none_of n e) gives),
+            grows so.0 so.2.1,
+          ),
+        )
 
   abbrev Fails : Option (List Fetch) → FeedFault → Type 0
   Fails now fault = CameAs first now (λ calls. IsFetchedFor whole held name fault calls × Also calls)

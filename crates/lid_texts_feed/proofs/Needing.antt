@@ -1,5 +1,5 @@
 -- The fetches that the first rows of a text need: those that begin before these rows have ended.
-use Rattle.std.proofs.Common.{◌≡◌, ℕ, zero, suc, ◌+◌, ◌-◌, ◌<◌, ◌≤◌, min, nat_lt, nat_le, Bool, true, false, cond, if◌then◌else◌, List, [], ◌∷◌, ◌++◌, length, take, drop, map, filter, reverse, Option, Some, None, IfSome, refl, sym, ◌∙◌, ap, subst, append-nil, length-append, arith}
+use Rattle.std.proofs.Common.{◌≡◌, ℕ, zero, suc, ◌+◌, ◌-◌, ◌<◌, ◌≤◌, min, nat_lt, nat_le, Bool, true, false, cond, if◌then◌else◌, List, [], ◌∷◌, ◌++◌, length, take, drop, map, filter, reverse, Option, Some, None, IfSome, refl, sym, ◌∙◌, ap, append-nil, length-append, arith}
 use Rattle.std.specs.List.{AllByRecursion}
 use Rattle.std.proofs.Math.Seq.{take-append_seam}
 use Rattle.std.proofs.lemmas.Bool.{lt-ltb, le-ltb}
@@ -8,15 +8,13 @@ use Rattle.std.proofs.lemmas.List.Elements.{filter-append}
 use Rattle.lid_base.specs.declared.outside.Fetch.{Fetch}
 use Rattle.lid_base.proofs.Lists.{all_append}
 use Rattle.lid_base.proofs.Alls.{all_weaker, all_map}
-use Rattle.lid_base_io.specs.Calls.{CameAs, pieces_in, places_from, fetch_places, fetch_from, fetches_of, FetchesSoFar, IsFetching, IsFetchingPart}
+use Rattle.lid_base_io.specs.Calls.{CameAs, pieces_in, places_from, fetch_places, fetch_from, fetches_of, IsFetching, IsFetchingPart}
 use Rattle.lid_base_io.proofs.Going.{part_of_going, part_of_all}
 use Rattle.lid_texts.specs.Scans.{ended_rows}
 use Rattle.lid_texts_feed.specs.declared.feed.RowFeed.{RowFeed}
 use Rattle.lid_texts_feed.specs.declared.text.TextScan.{TextScan}
-use Rattle.lid_texts_feed.specs.declared.fault.FeedFault.{FeedFault}
-use Rattle.lid_texts_feed.specs.declared.fault.FeedFault.TheVariants.{Read, Memory, Refused}
-use Rattle.lid_texts_feed.specs.Feeds.{most_bytes, fetches_for, AreFetchesFor, AreFirstFetchesFor, IsFetchedFor}
-use Rattle.lid_texts_feed.specs.Fetching.{AreNeeded, CameTo, HasFetched, Knows, HasGiven, FeedsBy}
+use Rattle.lid_texts_feed.specs.Feeds.{most_bytes, fetches_for, AreFetchesFor, AreFirstFetchesFor}
+use Rattle.lid_texts_feed.specs.Fetching.{AreNeeded, CameTo, HasFetched, Knows, FeedsBy}
 use Rattle.lid_texts_feed.specs.Rereadings.{FetchesAsNeeded}
 use Rattle.lid_texts_feed.proofs.Beginnings.{rows_go_on}
 use Rattle.lid_texts_feed.proofs.Giving.{rest_of}
@@ -102,11 +100,14 @@ module _ (whole : Bool) (held : Option (List ℕ)) (columns : List (List ℕ)) (
     -- the text goes on, and these rows of it are known
     going : (text : TextScan) (rest : List (List Bool)) (bytes : List ℕ) → HasFetched held columns outs text bytes → given ++ rest ≡ ended_rows columns outs bytes
         → CameTo Needs whole held name text.fetched first now None → CameAs first now (AreFetchesFor whole held columns outs (length given) name)
-    going text rest bytes fed known so =
-        (so.0, so.1, record {
-          part = part_of_going whole held name most_bytes text.fetched so.0 so.2.0;
-          exact = λ w. by held fed.begins (so.2.0.left w) so.2.1;
-        })
+    going text rest bytes fed known so = (
+      so.0,
+      so.1,
+      record {
+        part = part_of_going whole held name most_bytes text.fetched so.0 so.2.0;
+        exact = λ w. by held fed.begins (so.2.0.left w) so.2.1;
+      },
+    )
       where
         by : (told : Option (List ℕ)) → IfSome told (λ file. bytes ≡ take (length bytes) file)
             → IfSome told (λ file. (text.fetched ≤ min (length file) (most_bytes + 1)) × (so.0 ++ map (fetch_from name most_bytes) (fetch_places most_bytes (length file) text.fetched) ≡ fetches_of name most_bytes (length file)))
@@ -125,11 +126,14 @@ module _ (whole : Bool) (held : Option (List ℕ)) (columns : List (List ℕ)) (
 
     -- the text was fetched to its end
     ended : CameAs first now (λ calls. IsFetching whole held name most_bytes calls × Needs calls) → CameAs first now (AreFetchesFor whole held columns outs (length given) name)
-    ended so =
-        (so.0, so.1, record {
-          part = part_of_all whole held name most_bytes so.0 so.2.0;
-          exact = λ w. by held (so.2.0.exact w) so.2.1;
-        })
+    ended so = (
+      so.0,
+      so.1,
+      record {
+        part = part_of_all whole held name most_bytes so.0 so.2.0;
+        exact = λ w. by held (so.2.0.exact w) so.2.1;
+      },
+    )
       where
         by : (told : Option (List ℕ)) → IfSome told (λ file. so.0 ≡ fetches_of name most_bytes (length file)) → AreNeeded told columns outs (Some (length given)) so.0
             → IfSome told (λ file. so.0 ≡ fetches_for columns outs (length given) name file)

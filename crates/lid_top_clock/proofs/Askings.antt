@@ -1,5 +1,5 @@
 -- How many rows a run asks for.
-use Rattle.std.proofs.Common.{◌≡◌, ◌⊎◌, ℕ, zero, suc, ◌+◌, ◌-◌, ◌<◌, ◌≤◌, min, Bool, List, length, Option, inl, inr, refl, sym, ◌∙◌, ap, subst, add-one, arith}
+use Rattle.std.proofs.Common.{◌≡◌, ◌⊎◌, ℕ, zero, suc, ◌+◌, ◌-◌, ◌<◌, ◌≤◌, min, Bool, List, length, Option, inl, inr, refl, sym, ◌∙◌, ap, subst, arith}
 use Rattle.lid_base_io.proofs.Fetches.{below_or_not}
 use Rattle.lid_graph.specs.Firings.{Hold, IsFirstAtCap, firings}
 use Rattle.lid_graph_laws.proofs.Rising.{rises, rises_by_one}
@@ -10,9 +10,8 @@ use Rattle.lid_stations.specs.Stations.{actor_count}
 use Rattle.lid_stations.specs.Markings.{marking}
 use Rattle.lid_stations.proofs.Edges.{node_count}
 use Rattle.lid_stations.proofs.Alive.{rateable}
-use Rattle.lid_shell_laws.specs.Runs.{cap_of, fired_in, sink_of}
+use Rattle.lid_shell_laws.specs.Runs.{cap_of, fired_in}
 use Rattle.lid_clock.specs.Lives.{Life, IsLife, NeedsRow, fired_after, sink}
-use Rattle.lid_stall_text.specs.Holds.{hold_of}
 use Rattle.lid_top_script.specs.Clocked.{AsksFor}
 use Rattle.lid_top_clock.specs.Runnings.{ClockRun, LifeBegins}
 use Rattle.lid_texts_feed.specs.declared.feed.RowFeed.{RowFeed}

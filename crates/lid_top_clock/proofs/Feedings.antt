@@ -1,12 +1,12 @@
 -- The fetches of a run, step by step.
-use Rattle.std.proofs.Common.{◌≡◌, ℕ, ◌+◌, ◌<◌, ◌≤◌, Bool, List, length, Option, Some, None, IfErr, OnOk, Result, Ok, Err, refl, sym, ◌∙◌, ap, subst, true≢false, arith}
+use Rattle.std.proofs.Common.{◌≡◌, ℕ, ◌+◌, ◌≤◌, Bool, List, length, Option, Some, None, IfErr, Result, Ok, Err, sym, ◌∙◌, subst, true≢false, arith}
 use Rattle.std.specs.Prelude.{IsSome}
 use Rattle.lid_base.specs.declared.outside.Fetch.{Fetch}
 use Rattle.lid_base_io.specs.Calls.{CameAs, IsFetching}
 use Rattle.lid_texts_feed.specs.declared.fault.FeedFault.{FeedFault}
 use Rattle.lid_texts_feed.specs.declared.fault.FeedFault.TheVariants as feed
 use Rattle.lid_texts_feed.specs.declared.feed.RowFeed.{RowFeed}
-use Rattle.lid_texts_feed.specs.Feeds.{most_bytes, AreFirstFetchesFor, UnlessRead}
+use Rattle.lid_texts_feed.specs.Feeds.{most_bytes, AreFirstFetchesFor}
 use Rattle.lid_texts_feed.specs.Fetching.{AreNeeded, CameTo, FeedsBy, FailsBy}
 use Rattle.lid_texts_feed.proofs.Needing.{in_part, needed_for, feeds_for, feeds_in_part}
 use Rattle.lid_top_clock.specs.declared.fault.RunFault.{RunFault}

@@ -1,5 +1,5 @@
 -- The rows of a file, as the script reads them.
-use Rattle.std.proofs.Common.{◌≡◌, ℕ, Bool, List, length, Option, Result, Ok, Err, inr, subst}
+use Rattle.std.proofs.Common.{◌≡◌, ℕ, Bool, List, length, Option, Ok, Err, inr, subst}
 use Rattle.std.specs.Borrow.{Bor}
 use Rattle.std.specs.List.{AllByRecursion}
 use Rattle.lid_base.specs.declared.outside.Fetch.{Fetch}

@@ -60,8 +60,8 @@ fn next_row<S: Shelf>(
     ensures err { (r : ClockRun) (rows : List (List Bool)) → r.held ≡ S.held shelf.old feed.old.name → FeedGives r feed.old rows → given ≡ length rows
         → given < r.rows
         → IfErr result (IsRunCause r rows (Rose (S.faults shelf.old feed.old.name) (S.faults shelf.new feed.old.name)) ⊥) }
-    ensures fetched { (r : ClockRun) (rows : List (List Bool)) (first : Option (List Fetch)) → r.held ≡ S.held shelf.old feed.old.name → FeedGives r feed.old rows
-        → length rows < r.rows → FedBy S.whole r (length rows) first (S.fetches shelf.old) feed.old
+    ensures fetched { (r : ClockRun) (rows : List (List Bool)) (first : Option (List Fetch)) → r.held ≡ S.held shelf.old feed.old.name
+        → FeedGives r feed.old rows → length rows < r.rows → FedBy S.whole r (length rows) first (S.fetches shelf.old) feed.old
         → Feeding S.whole r feed.old.name (length rows + 1) first (S.fetches shelf.new) feed.new (S.faults shelf.old) (S.faults shelf.new) result }
     ensures name { feed.new.name ≡ feed.old.name }
     ensures kept { S.held shelf.new ≡ S.held shelf.old }
@@ -177,7 +177,8 @@ impl Running {
         ensures made { OnOk result (self.new.made ≡ self.old.made) }
         ensures err { (r : ClockRun) (given : List (List Bool)) → IsFed r (S.held shelf.old feed.old.name) self.old feed.old given
             → IfErr result (IsRunCause r given (Rose (S.faults shelf.old feed.old.name) (S.faults shelf.new feed.old.name)) ⊥) }
-        ensures fetched { (r : ClockRun) (given : List (List Bool)) (first : Option (List Fetch)) → IsFed r (S.held shelf.old feed.old.name) self.old feed.old given
+        ensures fetched { (r : ClockRun) (given : List (List Bool)) (first : Option (List Fetch))
+            → IsFed r (S.held shelf.old feed.old.name) self.old feed.old given
             → FedBy S.whole r self.old.given first (S.fetches shelf.old) feed.old
             → Feeding S.whole r feed.old.name self.new.given first (S.fetches shelf.new) feed.new (S.faults shelf.old) (S.faults shelf.new) result }
         ensures name { feed.new.name ≡ feed.old.name }
@@ -245,7 +246,8 @@ impl Running {
         ensures err { (r : ClockRun) (given : List (List Bool)) → IsFed r (S.held shelf.old feed.old.name) self.old feed.old given
             → HasNotEnded r self.old given
             → IfErr result (IsRunCause r given (Rose (S.faults shelf.old feed.old.name) (S.faults shelf.new feed.old.name)) ⊥) }
-        ensures fetched { (r : ClockRun) (given : List (List Bool)) (first : Option (List Fetch)) → IsFed r (S.held shelf.old feed.old.name) self.old feed.old given
+        ensures fetched { (r : ClockRun) (given : List (List Bool)) (first : Option (List Fetch))
+            → IsFed r (S.held shelf.old feed.old.name) self.old feed.old given
             → HasNotEnded r self.old given
             → FedBy S.whole r self.old.given first (S.fetches shelf.old) feed.old
             → Feeding S.whole r feed.old.name self.new.given first (S.fetches shelf.new) feed.new (S.faults shelf.old) (S.faults shelf.new) result }

@@ -102,7 +102,8 @@ pub fn run<S: Shelf, O: Sink, R: Threads + AllocGlobal + Sync, G: Gate>(
     ensures ok { OnOk result (HasRun (run_by task.now stalls (S.held shelf.old feed.old.name)) (O.written out.old) (O.written out.new)) }
     ensures err { IfErr result (HasStopped (run_by task.now stalls (S.held shelf.old feed.old.name)) (O.written out.old) (O.written out.new)
         (Rose (S.faults shelf.old feed.old.name) (S.faults shelf.new feed.old.name)) (Rose (O.faults out.old) (O.faults out.new))) }
-    ensures fetched { (first : Option (List Fetch)) → FedBy S.whole (run_by task.now stalls (S.held shelf.old feed.old.name)) 0 first (S.fetches shelf.old) feed.old
+    ensures fetched { (first : Option (List Fetch))
+        → FedBy S.whole (run_by task.now stalls (S.held shelf.old feed.old.name)) 0 first (S.fetches shelf.old) feed.old
         → RunFetches S.whole (run_by task.now stalls (S.held shelf.old feed.old.name)) feed.old.name
         first (S.fetches shelf.new) (S.faults shelf.old) (S.faults shelf.new) result }
     ensures kept { S.held shelf.new ≡ S.held shelf.old }

@@ -1,6 +1,6 @@
 -- The fetches of a run that writes while it runs: those of the steps that lead into a script, and then those of that
 -- script.
-use Rattle.std.proofs.Common.{◌≡◌, ℕ, Bool, List, [], Option, Result, Ok, Err, refl, ◌∙◌, subst}
+use Rattle.std.proofs.Common.{◌≡◌, ℕ, Bool, List, [], Option, Result, Err, refl, ◌∙◌, subst}
 use Rattle.lid_base.proofs.Results.{on_ok, if_err}
 use Rattle.lid_base.specs.declared.outside.Fetch.{Fetch}
 use Rattle.lid_base_io.proofs.Came.{none_came}

@@ -1,4 +1,4 @@
-use Rattle.std.proofs.Common.{ℕ, ◌+◌, List, Option, Some, length, sym, ◌∙◌, ap, subst, arith}
+use Rattle.std.proofs.Common.{◌+◌, Some, length, sym, subst, arith}
 use Rattle.lid_texts_feed.specs.Feeds.{AreAll}
 use Rattle.lid_texts_feed.specs.Fetching.{HasGiven, GivesNext, FailsBy}
 use Rattle.lid_top_clock.specs.Runnings.{source_columns}
