@@ -12,7 +12,7 @@ use Rattle.lid_texts.proofs.Limits.{reading_within}
 use Rattle.lid_texts_feed.specs.declared.text.TextScan.{TextScan}
 use Rattle.lid_texts_feed.specs.declared.feed.RowFeed.{RowFeed}
 use Rattle.lid_texts_feed.specs.Feeds.{most_bytes, AreAll, HasRows, AreFirstRows}
-use Rattle.lid_texts_feed.specs.Fetching.{HasFetched, Knows, HasGiven, GivesRow, GivesNext}
+use Rattle.lid_texts_feed.specs.Fetching.{HasFetched, Knows, IsBelowAsked, HasGiven, GivesRow, GivesNext}
 use Rattle.lid_texts_feed.proofs.Beginnings.{same_bits, rows_go_on, reading_begins, AreWide, ended_wide, reading_wide}
 use Rattle.lid_base.proofs.Alls.{all_middle}
 
@@ -26,6 +26,11 @@ nothing_taken None zero e none = refl
 nothing_taken None (suc n) e none = absurd (let f : false ≡ true = e.1 (omega arith) in cc)
 nothing_taken (Some a) n e none = absurd (let f : Some a ≡ None = none in cc)
 
+-- where none is held, as many are known as were given
+pub below_known : (asked : Option ℕ) (given held : List (List Bool)) → held ≡ [] → IsBelowAsked asked (length given) → IsBelowAsked asked (length (given ++ reverse held))
+below_known asked given held none below =
+    subst (λ (rows : List (List Bool)). IsBelowAsked asked (length rows)) (sym (ap (λ (rows : List (List Bool)). given ++ reverse rows) none ∙ append-nil given)) below
+
 -- a list before others is what is taken of them by its length
 first_taken : {A : Type 0} (given rest more later all : List A) → all ≡ ((given ++ rest) ++ more) ++ later → given ≡ take (length given) all
 first_taken {A} given rest more later all e =
@@ -33,7 +38,7 @@ first_taken {A} given rest more later all e =
     sym (ap (λ (xs : List A). take (length given) xs) (e ∙ same) ∙ take-append_seam given (rest ++ (more ++ later)))
 
 -- the first bytes, and those that come after them
-rest_of : (n m : ℕ) (file : List ℕ) → n ≤ m → take m file ≡ take n file ++ drop n (take m file)
+pub rest_of : (n m : ℕ) (file : List ℕ) → n ≤ m → take m file ≡ take n file ++ drop n (take m file)
 rest_of n m file few = sym (take-append-drop n (take m file)) ∙ ap (λ (xs : List ℕ). xs ++ drop n (take m file)) (take-take n m file few)
 
 module _ (held : Option (List ℕ)) (columns : List (List ℕ)) (outs : ℕ) where

@@ -3,3 +3,4 @@ pub mod Taking
 pub mod Giving
 pub mod Rereading
 pub mod Calling
+pub mod Needing

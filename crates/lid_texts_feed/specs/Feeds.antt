@@ -1,11 +1,12 @@
 -- Rows texts that are fetched from a file: what a text may be, and its rows.
-use Rattle.std.specs.Prelude.{◌≡◌, ℕ, ◌+◌, ◌≤◌, Bool, List, length, take, Option, IfSome, Ok, Err, ⊤}
-use Rattle.std.specs.List.{AllByRecursion}
+use Rattle.std.specs.Prelude.{◌≡◌, ℕ, ◌+◌, ◌≤◌, nat_lt, Bool, true, List, length, take, Option, IfSome, Ok, Err, ⊤}
+use Rattle.std.specs.List.{AllByRecursion, filter}
 use Rattle.lid_base.specs.declared.outside.Fetch.{Fetch}
-use Rattle.lid_base_io.specs.Calls.{IsFetching, IsFetchingPart}
+use Rattle.lid_base_io.specs.Calls.{fetches_of, IsFetching, IsFetchingPart}
 use Rattle.lid_texts.specs.declared.rows.Rows.{Rows}
 use Rattle.lid_texts.specs.declared.rows.VecFault.{VecFault}
 use Rattle.lid_texts.specs.Rows.{rows_reading}
+use Rattle.lid_texts.specs.Scans.{ended_rows}
 use Rattle.lid_texts_feed.specs.declared.fault.FeedFault.{FeedFault}
 use Rattle.lid_texts_feed.specs.declared.fault.FeedFault.TheVariants.{Read, Memory, Refused}
 
@@ -58,6 +59,21 @@ abbrev pub IsFetchedFor : Bool → Option (List ℕ) → List ℕ → FeedFault 
 IsFetchedFor whole held name Read calls = IsFetchingPart whole held name most_bytes calls
 IsFetchedFor whole held name Memory calls = IsFetchingPart whole held name most_bytes calls
 IsFetchedFor whole held name (Refused fault) calls = IsFetching whole held name most_bytes calls
+
+-- those fetches of a file, where each gives as many bytes as there is room for or as are left, that begin before so many
+-- rows have ended
+abbrev pub fetches_for : List (List ℕ) → ℕ → ℕ → List ℕ → List ℕ → List Fetch
+fetches_for columns outs rows name file = filter (λ call. nat_lt (length (ended_rows columns outs (take call.at file))) rows) (fetches_of name most_bytes (length file))
+
+-- the fetches of a text that is read no further than so many rows need
+pub record AreFetchesFor (whole : Bool) (held : Option (List ℕ)) (columns : List (List ℕ)) (outs rows : ℕ) (name : List ℕ) (calls : List Fetch) : Type 0 where
+  pub part : IsFetchingPart whole held name most_bytes calls
+  pub exact : whole ≡ true → IfSome held (λ file. calls ≡ fetches_for columns outs rows name file)
+
+-- some first of these
+pub record AreFirstFetchesFor (whole : Bool) (held : Option (List ℕ)) (columns : List (List ℕ)) (outs rows : ℕ) (name : List ℕ) (calls : List Fetch) : Type 0 where
+  pub part : IsFetchingPart whole held name most_bytes calls
+  pub exact : whole ≡ true → IfSome held (λ file. (k : ℕ) × (calls ≡ take k (fetches_for columns outs rows name file)))
 
 -- but where a fetch failed no count rose
 abbrev pub UnlessRead : Type 0 → FeedFault → Type 0

@@ -1,6 +1,7 @@
 -- What is kept between the pieces of a rows text. This serves the code of this crate, and its callers'
 -- invariants.
-use Rattle.std.specs.Prelude.{◌≡◌, ℕ, ◌+◌, ◌-◌, ◌≤◌, Bool, true, false, List, ◌∷◌, [], ◌++◌, length, take, reverse, Option, Some, None, IfSome}
+use Rattle.std.specs.Prelude.{◌≡◌, ℕ, ◌+◌, ◌-◌, ◌≤◌, ◌<◌, Bool, true, false, List, ◌∷◌, [], ◌++◌, length, take, reverse, Option, Some, None, IfSome}
+use Rattle.std.specs.List.{AllByRecursion}
 use Rattle.lid_base.specs.declared.outside.Fetch.{Fetch}
 use Rattle.lid_base_io.specs.Calls.{CameAs, FetchesSoFar, IsFetching, IsFetchingPart}
 use Rattle.lid_base_io.specs.Transfer.{FetchedNext}
@@ -15,7 +16,7 @@ use Rattle.lid_texts_feed.specs.declared.fault.FeedFault.{FeedFault}
 use Rattle.lid_texts_feed.specs.declared.fault.FeedFault.TheVariants.{Read, Memory, Refused}
 use Rattle.lid_texts_feed.specs.declared.text.TextScan.{TextScan}
 use Rattle.lid_texts_feed.specs.declared.feed.RowFeed.{RowFeed}
-use Rattle.lid_texts_feed.specs.Feeds.{most_bytes, IsText, AreAll, AreFirstRows}
+use Rattle.lid_texts_feed.specs.Feeds.{most_bytes, IsText, AreAll, AreFirstRows, IsFetchedFor}
 
 -- where the file's bytes are told, these are its first
 abbrev pub BeginsFile : Option (List ℕ) → List ℕ → Type 0
@@ -51,19 +52,37 @@ abbrev pub Knows : Option (List ℕ) → List (List ℕ) → ℕ → TextScan �
 Knows held columns outs text None rows = (bytes : List ℕ) × HasFetched held columns outs text bytes × (rows ≡ ended_rows columns outs bytes)
 Knows held columns outs text (Some n) rows = AreAll held columns outs rows × (n ≡ length rows)
 
--- the fetches so far, of which the next one comes from this place; or all of them, once the text has ended
-abbrev pub CameSo : Bool → Option (List ℕ) → List ℕ → ℕ → Option (List Fetch) → Option (List Fetch) → Bool → Type 0
-CameSo whole held name at first now true = CameAs first now (FetchesSoFar whole held name most_bytes at)
-CameSo whole held name at first now false = CameAs first now (IsFetching whole held name most_bytes)
+-- where it is known how many rows are asked for, and the file's bytes are told: fewer rows than these end before each
+-- place that was fetched from
+abbrev pub AreNeeded : Option (List ℕ) → List (List ℕ) → ℕ → Option ℕ → List Fetch → Type 0
+AreNeeded held columns outs asked calls = IfSome asked (λ rows. IfSome held (λ file. AllByRecursion (λ call. length (ended_rows columns outs (take call.at file)) < rows) calls))
+
+-- the fetches so far, of which the next one comes from this place; or all of them, once the text has ended. `Also`
+-- holds of them too
+abbrev pub CameSo : (List Fetch → Type 0) → Bool → Option (List ℕ) → List ℕ → ℕ → Option (List Fetch) → Option (List Fetch) → Bool → Type 0
+CameSo Also whole held name at first now true = CameAs first now (λ calls. FetchesSoFar whole held name most_bytes at calls × Also calls)
+CameSo Also whole held name at first now false = CameAs first now (λ calls. IsFetching whole held name most_bytes calls × Also calls)
 
 -- the same by whether it has been found how many rows the text has
-abbrev pub CameTo : Bool → Option (List ℕ) → List ℕ → ℕ → Option (List Fetch) → Option (List Fetch) → Option ℕ → Type 0
-CameTo whole held name at first now None = CameAs first now (FetchesSoFar whole held name most_bytes at)
-CameTo whole held name at first now (Some n) = CameAs first now (IsFetching whole held name most_bytes)
+abbrev pub CameTo : (List Fetch → Type 0) → Bool → Option (List ℕ) → List ℕ → ℕ → Option (List Fetch) → Option (List Fetch) → Option ℕ → Type 0
+CameTo Also whole held name at first now None = CameAs first now (λ calls. FetchesSoFar whole held name most_bytes at calls × Also calls)
+CameTo Also whole held name at first now (Some n) = CameAs first now (λ calls. IsFetching whole held name most_bytes calls × Also calls)
 
 -- some first fetches of the text
-abbrev pub CameInPart : Bool → Option (List ℕ) → List ℕ → Option (List Fetch) → Option (List Fetch) → Type 0
-CameInPart whole held name first now = CameAs first now (IsFetchingPart whole held name most_bytes)
+abbrev pub CameInPart : (List Fetch → Type 0) → Bool → Option (List ℕ) → List ℕ → Option (List Fetch) → Option (List Fetch) → Type 0
+CameInPart Also whole held name first now = CameAs first now (λ calls. IsFetchingPart whole held name most_bytes calls × Also calls)
+
+-- the text has come so far by these fetches, each made while fewer rows than are asked for ended before its place
+abbrev pub ScansBy : Bool → Option (List ℕ) → List (List ℕ) → ℕ → Option ℕ → List ℕ → Option (List Fetch) → Option (List Fetch) → TextScan → Type 0
+ScansBy whole held columns outs asked name first now text = CameTo (AreNeeded held columns outs asked) whole held name text.fetched first now text.count
+
+-- the fetches of a text that stands for no rows, each made so
+abbrev pub FailsBy : Bool → Option (List ℕ) → List (List ℕ) → ℕ → Option ℕ → List ℕ → Option (List Fetch) → Option (List Fetch) → FeedFault → Type 0
+FailsBy whole held columns outs asked name first now fault = CameAs first now (λ calls. IsFetchedFor whole held name fault calls × AreNeeded held columns outs asked calls)
+
+-- fewer rows than are asked for, where that is known
+abbrev pub IsBelowAsked : Option ℕ → ℕ → Type 0
+IsBelowAsked asked n = IfSome asked (λ rows. n < rows)
 
 -- further rows of the text became known, and were appended
 pub record KnowsMore (held : Option (List ℕ)) (columns : List (List ℕ)) (outs : ℕ) (new : TextScan) (known before now : List (List Bool)) : Type 0 where
@@ -79,6 +98,10 @@ left_of text (Some n) = 0
 -- the feed has given these rows, and holds the next that are known, the next one last
 pub record HasGiven (held : Option (List ℕ)) (columns : List (List ℕ)) (outs : ℕ) (feed : RowFeed) (given : List (List Bool)) : Type 0 where
   pub knows : Knows held columns outs feed.text feed.text.count (given ++ reverse feed.rows.items)
+
+-- the feed has come so far by these fetches, each made while fewer rows than are asked for ended before its place
+abbrev pub FeedsBy : Bool → Option (List ℕ) → List (List ℕ) → ℕ → Option ℕ → Option (List Fetch) → Option (List Fetch) → RowFeed → Type 0
+FeedsBy whole held columns outs asked first now feed = ScansBy whole held columns outs asked feed.name first now feed.text
 
 -- the next row of the text was given after these
 pub record GivesRow (held : Option (List ℕ)) (columns : List (List ℕ)) (outs : ℕ) (new : RowFeed) (given : List (List Bool)) (row : List Bool) : Type 0 where

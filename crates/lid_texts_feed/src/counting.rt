@@ -1,11 +1,11 @@
 //! How many rows a file has.
 
-ghost use Rattle.std.specs.Prelude.{◌≡◌, ℕ, ◌≤◌, Bool, List, Option, IfOk, IfErr, OnOk};
+ghost use Rattle.std.specs.Prelude.{◌≡◌, ℕ, ◌≤◌, Bool, List, Option, None, IfOk, IfErr, OnOk};
 ghost use Rattle.lid_base.specs.declared.outside.Fetch.{Fetch};
 ghost use Rattle.lid_base.specs.Outside.{Rose};
 ghost use Rattle.lid_base_io.specs.Calls.{CameAs, IsFetching};
 ghost use Rattle.lid_texts_feed.specs.Feeds.{most_bytes, HasRows, IsRefusedText, IfRead, IfRefused, IsFetchedFor, UnlessRead};
-ghost use Rattle.lid_texts_feed.specs.Fetching.{CameTo, Knows};
+ghost use Rattle.lid_texts_feed.specs.Fetching.{ScansBy, Knows};
 
 use crate::fault::FeedFault;
 use crate::text::TextScan;
@@ -22,11 +22,11 @@ fn count_all<S: Shelf>(text: &mut TextScan, shelf: &mut S, name: &str) -> Result
         → IfErr result (IfRefused (IsRefusedText (S.held shelf.old name.now) columns outs)) }
     ensures came { (columns : List (List ℕ)) (outs : ℕ) (known : List (List Bool)) (first : Option (List Fetch))
         → Knows (S.held shelf.old name.now) columns outs text.old text.old.count known
-        → CameTo S.whole (S.held shelf.old name.now) name.now text.old.fetched first (S.fetches shelf.old) text.old.count
+        → ScansBy S.whole (S.held shelf.old name.now) columns outs None name.now first (S.fetches shelf.old) text.old
         → OnOk result (CameAs first (S.fetches shelf.new) (IsFetching S.whole (S.held shelf.old name.now) name.now most_bytes)) }
     ensures begun { (columns : List (List ℕ)) (outs : ℕ) (known : List (List Bool)) (first : Option (List Fetch))
         → Knows (S.held shelf.old name.now) columns outs text.old text.old.count known
-        → CameTo S.whole (S.held shelf.old name.now) name.now text.old.fetched first (S.fetches shelf.old) text.old.count
+        → ScansBy S.whole (S.held shelf.old name.now) columns outs None name.now first (S.fetches shelf.old) text.old
         → IfErr result (λ e. CameAs first (S.fetches shelf.new) (IsFetchedFor S.whole (S.held shelf.old name.now) name.now e)) }
     ensures still { OnOk result ((q : List ℕ) → S.faults shelf.new q ≡ S.faults shelf.old q) }
     ensures wanting { IfErr result (UnlessRead ((q : List ℕ) → S.faults shelf.new q ≡ S.faults shelf.old q)) }

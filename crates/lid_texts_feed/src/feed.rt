@@ -1,11 +1,10 @@
 //! The rows of a file, one by one.
 
-ghost use Rattle.std.specs.Prelude.{◌≡◌, ℕ, ◌≤◌, ◌<◌, Bool, List, [], length, Option, None, IfOk, IfErr, OnOk};
+ghost use Rattle.std.specs.Prelude.{◌≡◌, ℕ, ◌≤◌, ◌<◌, Bool, List, [], length, Option, None, IsSome, IfOk, IfErr, OnOk};
 ghost use Rattle.lid_base.specs.Outside.{Rose};
 ghost use Rattle.lid_base.specs.declared.outside.Fetch.{Fetch};
-ghost use Rattle.lid_base_io.specs.Calls.{CameAs};
-ghost use Rattle.lid_texts_feed.specs.Feeds.{IsRefusedText, IfRead, IfRefused, IsFetchedFor, UnlessRead};
-ghost use Rattle.lid_texts_feed.specs.Fetching.{HasGiven, GivesNext, CameTo, left_of};
+ghost use Rattle.lid_texts_feed.specs.Feeds.{IsRefusedText, IfRead, IfRefused, UnlessRead};
+ghost use Rattle.lid_texts_feed.specs.Fetching.{HasGiven, GivesNext, FeedsBy, FailsBy, IsBelowAsked, left_of};
 
 use crate::fault::FeedFault;
 use crate::text::TextScan;
@@ -37,8 +36,8 @@ impl RowFeed {
     ) -> Result<RowFeed, AllocError>
         ensures given { (held : Option (List ℕ)) → IfOk result (λ feed. HasGiven held columns.now outs feed []) }
         ensures name { IfOk result (λ feed. feed.name ≡ name.now) }
-        ensures came { (whole : Bool) (held : Option (List ℕ)) (first : Option (List Fetch))
-            → IfOk result (λ feed. CameTo whole held name.now feed.text.fetched first first feed.text.count) }
+        ensures came { (whole : Bool) (held : Option (List ℕ)) (asked : Option ℕ) (first : Option (List Fetch))
+            → IfOk result (FeedsBy whole held columns.now outs asked first first) }
     {
         Ok(RowFeed {
             name: Text::new(String::from_str(alloc, name)?),
@@ -56,15 +55,16 @@ impl RowFeed {
             → HasGiven (S.held shelf.old self.old.name) columns outs self.old given
             → IfErr result (IfRefused (IsRefusedText (S.held shelf.old self.old.name) columns outs)) }
         ensures less { self.old.text.count ≡ None → OnOk result (left_of self.new.text self.new.text.count < left_of self.old.text self.old.text.count) }
-        ensures came { (columns : List (List ℕ)) (outs : ℕ) (given : List (List Bool)) (first : Option (List Fetch)) → self.old.text.count ≡ None
-            → HasGiven (S.held shelf.old self.old.name) columns outs self.old given
-            → CameTo S.whole (S.held shelf.old self.old.name) self.old.name self.old.text.fetched first (S.fetches shelf.old) self.old.text.count
-            → OnOk result (CameTo S.whole (S.held shelf.old self.old.name) self.old.name self.new.text.fetched
-            first (S.fetches shelf.new) self.new.text.count) }
-        ensures begun { (columns : List (List ℕ)) (outs : ℕ) (given : List (List Bool)) (first : Option (List Fetch)) → self.old.text.count ≡ None
-            → HasGiven (S.held shelf.old self.old.name) columns outs self.old given
-            → CameTo S.whole (S.held shelf.old self.old.name) self.old.name self.old.text.fetched first (S.fetches shelf.old) self.old.text.count
-            → IfErr result (λ e. CameAs first (S.fetches shelf.new) (IsFetchedFor S.whole (S.held shelf.old self.old.name) self.old.name e)) }
+        ensures came { (columns : List (List ℕ)) (outs : ℕ) (given : List (List Bool)) (asked : Option ℕ) (first : Option (List Fetch))
+            → self.old.text.count ≡ None → self.old.rows.items ≡ []
+            → HasGiven (S.held shelf.old self.old.name) columns outs self.old given → IsBelowAsked asked (length given)
+            → FeedsBy S.whole (S.held shelf.old self.old.name) columns outs asked first (S.fetches shelf.old) self.old
+            → OnOk result (FeedsBy S.whole (S.held shelf.old self.old.name) columns outs asked first (S.fetches shelf.new) self.new) }
+        ensures begun { (columns : List (List ℕ)) (outs : ℕ) (given : List (List Bool)) (asked : Option ℕ) (first : Option (List Fetch))
+            → self.old.text.count ≡ None → self.old.rows.items ≡ []
+            → HasGiven (S.held shelf.old self.old.name) columns outs self.old given → IsBelowAsked asked (length given)
+            → FeedsBy S.whole (S.held shelf.old self.old.name) columns outs asked first (S.fetches shelf.old) self.old
+            → IfErr result (FailsBy S.whole (S.held shelf.old self.old.name) columns outs asked self.old.name first (S.fetches shelf.new)) }
         ensures still { OnOk result ((q : List ℕ) → S.faults shelf.new q ≡ S.faults shelf.old q) }
         ensures wanting { IfErr result (UnlessRead ((q : List ℕ) → S.faults shelf.new q ≡ S.faults shelf.old q)) }
         ensures name { self.new.name ≡ self.old.name }
@@ -97,15 +97,15 @@ impl RowFeed {
             → HasGiven (S.held shelf.old self.old.name) columns outs self.old given
             → IfErr result (IfRefused (IsRefusedText (S.held shelf.old self.old.name) columns outs)) }
         ensures waits { 0 < length self.old.rows.items → shelf.new ≡ shelf.old }
-        ensures came { (columns : List (List ℕ)) (outs : ℕ) (given : List (List Bool)) (first : Option (List Fetch))
-            → HasGiven (S.held shelf.old self.old.name) columns outs self.old given
-            → CameTo S.whole (S.held shelf.old self.old.name) self.old.name self.old.text.fetched first (S.fetches shelf.old) self.old.text.count
-            → OnOk result (CameTo S.whole (S.held shelf.old self.old.name) self.old.name self.new.text.fetched
-            first (S.fetches shelf.new) self.new.text.count) }
-        ensures begun { (columns : List (List ℕ)) (outs : ℕ) (given : List (List Bool)) (first : Option (List Fetch))
-            → HasGiven (S.held shelf.old self.old.name) columns outs self.old given
-            → CameTo S.whole (S.held shelf.old self.old.name) self.old.name self.old.text.fetched first (S.fetches shelf.old) self.old.text.count
-            → IfErr result (λ e. CameAs first (S.fetches shelf.new) (IsFetchedFor S.whole (S.held shelf.old self.old.name) self.old.name e)) }
+        ensures came { (columns : List (List ℕ)) (outs : ℕ) (given : List (List Bool)) (asked : Option ℕ) (first : Option (List Fetch))
+            → HasGiven (S.held shelf.old self.old.name) columns outs self.old given → IsBelowAsked asked (length given)
+            → FeedsBy S.whole (S.held shelf.old self.old.name) columns outs asked first (S.fetches shelf.old) self.old
+            → OnOk result (FeedsBy S.whole (S.held shelf.old self.old.name) columns outs asked first (S.fetches shelf.new) self.new) }
+        ensures begun { (columns : List (List ℕ)) (outs : ℕ) (given : List (List Bool)) (asked : Option ℕ) (first : Option (List Fetch))
+            → HasGiven (S.held shelf.old self.old.name) columns outs self.old given → IsBelowAsked asked (length given)
+            → FeedsBy S.whole (S.held shelf.old self.old.name) columns outs asked first (S.fetches shelf.old) self.old
+            → IfErr result (FailsBy S.whole (S.held shelf.old self.old.name) columns outs asked self.old.name first (S.fetches shelf.new)) }
+        ensures last { IfOk result (λ row. row ≡ None → IsSome self.new.text.count) }
         ensures still { OnOk result ((q : List ℕ) → S.faults shelf.new q ≡ S.faults shelf.old q) }
         ensures wanting { IfErr result (UnlessRead ((q : List ℕ) → S.faults shelf.new q ≡ S.faults shelf.old q)) }
         ensures name { self.new.name ≡ self.old.name }

@@ -10,4 +10,4 @@ mod text;
 pub use counting::count_rows;
 pub use fault::FeedFault;
 pub use feed::RowFeed;
-pub use laws::told_rows_are_read_again;
+pub use laws::{rows_are_fetched_as_needed, told_rows_are_read_again};

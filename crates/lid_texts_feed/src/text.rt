@@ -4,10 +4,9 @@ ghost use Rattle.std.specs.Prelude.{◌≡◌, ℕ, ◌+◌, ◌≤◌, ◌<◌,
 ghost use Rattle.lid_texts.specs.Scans.{ended_rows};
 ghost use Rattle.lid_base.specs.declared.outside.Fetch.{Fetch};
 ghost use Rattle.lid_base.specs.Outside.{Rose, Came, one_fetch};
-ghost use Rattle.lid_base_io.specs.Calls.{CameAs, FetchesSoFar};
 ghost use Rattle.lid_texts.specs.Scanned.{HasRead};
-ghost use Rattle.lid_texts_feed.specs.Feeds.{most_bytes, IsText, IsRefusedText, IfRead, IfRefused, IsFetchedFor, UnlessRead};
-ghost use Rattle.lid_texts_feed.specs.Fetching.{ScansPiece, HasFetched, TakesPiece, CameSo, CameTo, CameInPart, Knows, KnowsMore, left_of};
+ghost use Rattle.lid_texts_feed.specs.Feeds.{most_bytes, IsText, IsRefusedText, IfRead, IfRefused, UnlessRead};
+ghost use Rattle.lid_texts_feed.specs.Fetching.{ScansPiece, HasFetched, TakesPiece, AreNeeded, CameSo, CameInPart, ScansBy, FailsBy, IsBelowAsked, Knows, KnowsMore, left_of};
 
 use crate::fault::{FeedFault, refused, unfetched};
 use lid_base::{Items, Name, Shelf};
@@ -91,14 +90,18 @@ impl TextScan {
             → IfOk result (TakesPiece (S.held shelf.old name.now) columns outs self.new bytes rows.old.items rows.new.items) }
         ensures further { IfOk result (λ more. more ≡ true → (self.old.fetched ≤ most_bytes) × (self.old.fetched < self.new.fetched)) }
         ensures count { self.new.count ≡ self.old.count }
-        ensures came { (columns : List (List ℕ)) (outs : ℕ) (bytes : List ℕ) (first : Option (List Fetch))
-            → HasFetched (S.held shelf.old name.now) columns outs self.old bytes
-            → CameAs first (S.fetches shelf.old) (FetchesSoFar S.whole (S.held shelf.old name.now) name.now most_bytes (length bytes))
-            → IfOk result (CameSo S.whole (S.held shelf.old name.now) name.now self.new.fetched first (S.fetches shelf.new)) }
-        ensures begun { (columns : List (List ℕ)) (outs : ℕ) (bytes : List ℕ) (first : Option (List Fetch))
-            → HasFetched (S.held shelf.old name.now) columns outs self.old bytes
-            → CameAs first (S.fetches shelf.old) (FetchesSoFar S.whole (S.held shelf.old name.now) name.now most_bytes (length bytes))
-            → OnErr result (CameInPart S.whole (S.held shelf.old name.now) name.now first (S.fetches shelf.new)) }
+        ensures came { (columns : List (List ℕ)) (outs : ℕ) (bytes : List ℕ) (asked : Option ℕ) (first : Option (List Fetch))
+            → HasFetched (S.held shelf.old name.now) columns outs self.old bytes → IsBelowAsked asked (length (ended_rows columns outs bytes))
+            → CameSo (AreNeeded (S.held shelf.old name.now) columns outs asked) S.whole (S.held shelf.old name.now) name.now (length bytes)
+            first (S.fetches shelf.old) true
+            → IfOk result (CameSo (AreNeeded (S.held shelf.old name.now) columns outs asked) S.whole (S.held shelf.old name.now) name.now self.new.fetched
+            first (S.fetches shelf.new)) }
+        ensures begun { (columns : List (List ℕ)) (outs : ℕ) (bytes : List ℕ) (asked : Option ℕ) (first : Option (List Fetch))
+            → HasFetched (S.held shelf.old name.now) columns outs self.old bytes → IsBelowAsked asked (length (ended_rows columns outs bytes))
+            → CameSo (AreNeeded (S.held shelf.old name.now) columns outs asked) S.whole (S.held shelf.old name.now) name.now (length bytes)
+            first (S.fetches shelf.old) true
+            → OnErr result (CameInPart (AreNeeded (S.held shelf.old name.now) columns outs asked) S.whole (S.held shelf.old name.now) name.now
+            first (S.fetches shelf.new)) }
         ensures still { OnOk result ((q : List ℕ) → S.faults shelf.new q ≡ S.faults shelf.old q) }
         ensures wanting { IfErr result (λ e. e ≡ FetchFault.Memory → (q : List ℕ) → S.faults shelf.new q ≡ S.faults shelf.old q) }
         ensures failed { IfErr result (λ e. e ≡ FetchFault.Read → Rose (S.faults shelf.old name.now) (S.faults shelf.new name.now)) }
@@ -155,14 +158,14 @@ impl TextScan {
             → Knows (S.held shelf.old name.now) columns outs self.old self.old.count known
             → IfErr result (IfRefused (IsRefusedText (S.held shelf.old name.now) columns outs)) }
         ensures less { self.old.count ≡ None → OnOk result (left_of self.new self.new.count < left_of self.old self.old.count) }
-        ensures came { (columns : List (List ℕ)) (outs : ℕ) (known : List (List Bool)) (first : Option (List Fetch)) → self.old.count ≡ None
-            → Knows (S.held shelf.old name.now) columns outs self.old self.old.count known
-            → CameTo S.whole (S.held shelf.old name.now) name.now self.old.fetched first (S.fetches shelf.old) self.old.count
-            → OnOk result (CameTo S.whole (S.held shelf.old name.now) name.now self.new.fetched first (S.fetches shelf.new) self.new.count) }
-        ensures begun { (columns : List (List ℕ)) (outs : ℕ) (known : List (List Bool)) (first : Option (List Fetch)) → self.old.count ≡ None
-            → Knows (S.held shelf.old name.now) columns outs self.old self.old.count known
-            → CameTo S.whole (S.held shelf.old name.now) name.now self.old.fetched first (S.fetches shelf.old) self.old.count
-            → IfErr result (λ e. CameAs first (S.fetches shelf.new) (IsFetchedFor S.whole (S.held shelf.old name.now) name.now e)) }
+        ensures came { (columns : List (List ℕ)) (outs : ℕ) (known : List (List Bool)) (asked : Option ℕ) (first : Option (List Fetch))
+            → self.old.count ≡ None → Knows (S.held shelf.old name.now) columns outs self.old self.old.count known → IsBelowAsked asked (length known)
+            → ScansBy S.whole (S.held shelf.old name.now) columns outs asked name.now first (S.fetches shelf.old) self.old
+            → OnOk result (ScansBy S.whole (S.held shelf.old name.now) columns outs asked name.now first (S.fetches shelf.new) self.new) }
+        ensures begun { (columns : List (List ℕ)) (outs : ℕ) (known : List (List Bool)) (asked : Option ℕ) (first : Option (List Fetch))
+            → self.old.count ≡ None → Knows (S.held shelf.old name.now) columns outs self.old self.old.count known → IsBelowAsked asked (length known)
+            → ScansBy S.whole (S.held shelf.old name.now) columns outs asked name.now first (S.fetches shelf.old) self.old
+            → IfErr result (FailsBy S.whole (S.held shelf.old name.now) columns outs asked name.now first (S.fetches shelf.new)) }
         ensures still { OnOk result ((q : List ℕ) → S.faults shelf.new q ≡ S.faults shelf.old q) }
         ensures wanting { IfErr result (UnlessRead ((q : List ℕ) → S.faults shelf.new q ≡ S.faults shelf.old q)) }
         ensures failed { IfErr result (IfRead (Rose (S.faults shelf.old name.now) (S.faults shelf.new name.now))) }

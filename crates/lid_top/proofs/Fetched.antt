@@ -1,18 +1,16 @@
--- The fetches of a job that writes nothing before its output is whole.
-use Rattle.std.proofs.Common.{◌≡◌, ◌≢◌, ℕ, Bool, false, true≢false, List, Option, Result, Ok, Err, IfErr, inl, inr, refl, sym, ◌∙◌, ap}
+-- The fetches of a job.
+use Rattle.std.proofs.Common.{◌≡◌, ◌≢◌, ℕ, Bool, List, Option, Result, Ok, Err, IfErr, inl, inr, refl, ap}
 use Rattle.std.specs.declared.alloc.Global.{Global}
 use Rattle.std.specs.declared.vec.Vec.{Vec}
 use Rattle.lid_base.specs.declared.outside.Fetch.{Fetch}
-use Rattle.lid_top_words.specs.declared.job.Job.{Job}
-use Rattle.lid_top_words.specs.declared.job.Job.TheVariants.{Clock}
 use Rattle.lid_top_script.specs.declared.fault.Stop.{Stop}
 use Rattle.lid_top_script.specs.declared.fault.Stop.TheVariants.{Refused, Read, Memory, Denied}
 use Rattle.lid_top_script.specs.declared.fault.JobEnd.{JobEnd}
 use Rattle.lid_top_script.specs.declared.fault.JobEnd.TheVariants.{Stopped, Unwritten}
 use Rattle.lid_top_script.specs.Scripts.{gives, Script, end, size_read, generating, gen_script}
 use Rattle.lid_top_script.specs.Causes.{IsStoppedJob, stop_status, end_status, job_status}
-use Rattle.lid_top_script.specs.Statuses.{writes_early}
-use Rattle.lid_top_script.specs.Fetches.{at_end, between, halt_of, StillAt, IsStatusAt, FetchesJob, FetchesNothing}
+use Rattle.lid_top_script.specs.Early.{FetchesEarly}
+use Rattle.lid_top_script.specs.Fetches.{at_end, at_write, between, halt_of, StillAt, IsStatusAt, FetchesJob, FetchesNothing}
 use Rattle.lid_top_script.specs.Whole.{RunsBy}
 use Rattle.lid_top_script.proofs.Going.{goes_short, then_nothing}
 
@@ -22,6 +20,13 @@ halts_at (Refused refusal) = refl
 halts_at (Read file) = refl
 halts_at Memory = refl
 halts_at Denied = refl
+
+-- no count rose but at 3
+still_but : (stop : Stop) (before after : List ℕ → ℕ) → StillAt stop before after → stop_status stop ≢ 3 → (q : List ℕ) → after q ≡ before q
+still_but (Refused refusal) before after still _ = still
+still_but (Read file) before after still not = absurd (not refl)
+still_but Memory before after still _ = still
+still_but Denied before after still _ = still
 
 module _ {whole : Bool} {held now : List ℕ → Option (List ℕ)} {script : Script} {old new : Option (List Fetch)} {before after : List ℕ → ℕ} where
   -- the text was whole, and then it was written, or a write failed, or memory was wanting
@@ -52,18 +57,21 @@ module _ {whole : Bool} {held now : List ℕ → Option (List ℕ)} {script : Sc
       let came = run.fetched.begun in
       record {
         came = (came.0, came.1, record { halt = halt_of stop; goes = came.2; halts = halts_at stop });
-        still = rises stop run.fetched.still_at;
+        still = still_but stop before after run.fetched.still_at;
       }
-    where
-      rises : (s : Stop) → StillAt s before after → stop_status s ≢ 3 → (q : List ℕ) → after q ≡ before q
-      rises (Refused refusal) still _ = still
-      rises (Read file) still not = absurd (not refl)
-      rises Memory still _ = still
-      rises Denied still _ = still
 
--- `clock` writes early
-pub not_clock : {job : Job} {net vec : List ℕ} {stations stalls : Option (List ℕ)} {workers : ℕ} {trace : Option ℕ} {root : Option (List ℕ)} → job ≡ Clock net vec stations stalls workers trace root → writes_early job ≡ false → ⊥
-not_clock is not = true≢false (sym (ap writes_early is) ∙ not)
+-- a run that writes while it runs
+pub job_early : {whole : Bool} {held : List ℕ → Option (List ℕ)} {script : Script} {old new : Option (List Fetch)} {before after : List ℕ → ℕ} (result : Result (Unit {0}) JobEnd) → FetchesEarly whole held script old new before after result
+    → FetchesJob whole held script old new before after (job_status result)
+job_early (Ok done) run =
+    let came = run.done in
+    record { came = (came.0, came.1, record { halt = at_end (gives came.2.0); goes = came.2.1; halts = inl refl }); still = λ _. run.still }
+job_early {before = before} {after = after} (Err (Stopped stop)) run =
+    let came = run.begun in
+    record { came = (came.0, came.1, record { halt = halt_of stop; goes = came.2; halts = halts_at stop }); still = still_but stop before after run.still_by }
+job_early (Err Unwritten) run =
+    let came = run.begun in
+    record { came = (came.0, came.1, record { halt = at_write; goes = came.2; halts = refl }); still = λ _. run.still_by }
 
 -- `gen` fetches nothing
 pub gen_fetches_nothing : (seed shells : ℕ) (run : Option ℕ) → FetchesNothing (gen_script seed shells run)

@@ -55,9 +55,9 @@ denied_told (Stopped Denied) e = refl
 denied_told Unwritten e = absurd (omega (arith, e))
 
 module _ {S O E : Type 0} (shelf_whole : Bool) (held : S → List ℕ → Option (List ℕ)) (fetches : S → Option (List Fetch)) (reads : S → List ℕ → ℕ) (written : O → Option (List ℕ)) (pieces : O → Option (List (List ℕ))) (writes : O → ℕ) (said : E → Option (List ℕ)) (parts : E → Option (List (List ℕ))) (errs : E → ℕ) where
-  -- the fetches of a job that does not write early
+  -- the fetches of a job
   abbrev Fetched : Job → S → S → ℕ → Type 0
-  Fetched job s t status = writes_early job ≡ false → FetchesJob shelf_whole (held s) (script_of job) (fetches s) (fetches t) (reads s) (reads t) status
+  Fetched job s t status = FetchesJob shelf_whole (held s) (script_of job) (fetches s) (fetches t) (reads s) (reads t) status
 
   -- memory was wanting before the words were read
   pub run_unread : (asked : Option Job) (s : S) (o : O) (e f : E) → Says said parts errs e f memory_line → Run asked shelf_whole held fetches reads s s written pieces writes o o said parts errs e f 5
@@ -89,7 +89,7 @@ module _ {S O E : Type 0} (shelf_whole : Bool) (held : S → List ℕ → Option
         left = λ _ _. leaves (writes_early job) job;
         unwritten = λ one. absurd (omega (arith, one));
         complete = λ _ _. inl refl;
-        fetched = λ _. record {
+        fetched = record {
           came = ([], none_came (fetches s), record { halt = between; goes = goes_wanting shelf_whole (held s) (script_of job) Memory tt; halts = refl });
           still = λ _ q. refl;
         };

@@ -43,7 +43,7 @@ where
     ensures left { IfErr result (λ end. IsStoppedJob end
         → Leaves (writes_early job.now) (S.held shelf.old) (script_of job.now) O.written O.pieces out.old out.new) }
     ensures unwritten { IfErr result (λ end. IsRefusedJob end → TellsAll (S.held shelf.old) (script_of job.now) → out.new ≡ out.old) }
-    ensures fetched { writes_early job.now ≡ false → FetchesJob S.whole (S.held shelf.old) (script_of job.now)
+    ensures fetched { FetchesJob S.whole (S.held shelf.old) (script_of job.now)
         (S.fetches shelf.old) (S.fetches shelf.new) (S.faults shelf.old) (S.faults shelf.new) (job_status result) }
     ensures kept { S.held shelf.new ≡ S.held shelf.old }
 {
@@ -65,6 +65,8 @@ fn run_early<'a, R: Threads + AllocGlobal + Sync, S: Shelf, O: Sink, G: Gate>(
     requires sound { IsJobInRange job.now }
     ensures ran { RunsEarly (S.held shelf.old) (script_of job.now)
         (S.faults shelf.old) (S.faults shelf.new) O.written O.pieces O.faults out.old out.new result }
+    ensures fetched { FetchesJob S.whole (S.held shelf.old) (script_of job.now)
+        (S.fetches shelf.old) (S.fetches shelf.new) (S.faults shelf.old) (S.faults shelf.new) (job_status result) }
     ensures kept { S.held shelf.new ≡ S.held shelf.old }
 {
     match job {

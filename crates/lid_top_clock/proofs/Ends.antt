@@ -70,7 +70,7 @@ module _ (l : Life) (rules : IsLife l) where
   sink_there : sink l < actor_count (links_of s) p
   sink_there = let least = rules.system.least in omega arith
 
-  sink_cap : cap (sink l) ≡ rows
+  pub sink_cap : cap (sink l) ≡ rows
   sink_cap = ap (λ (b : Bool). cond b (rows - 1) rows) (le-ltb (sink l + 1) (length s.nodes) (let least = rules.system.least in omega arith))
 
   pub sink_within : (k : ℕ) → fired_after l k (sink l) ≤ rows

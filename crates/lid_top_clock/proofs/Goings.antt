@@ -1,5 +1,5 @@
 -- A run from cycle to cycle.
-use Rattle.std.proofs.Common.{◌≡◌, ◌↔◌, ℕ, suc, ◌+◌, ◌*◌, ◌^◌, ◌<◌, ◌≤◌, ◌==◌, ◌⊎◌, inl, inr, Bool, true, false, min, List, [], ◌∷◌, ◌++◌, length, length-append, Option, Some, Result, Ok, Err, OnOk, slice_get, sym, ◌∙◌, ap, subst, add-one, arith}
+use Rattle.std.proofs.Common.{◌≡◌, ◌↔◌, ℕ, suc, ◌+◌, ◌*◌, ◌^◌, ◌<◌, ◌≤◌, ◌==◌, ◌⊎◌, inl, inr, Bool, true, false, min, List, [], ◌∷◌, ◌++◌, length, length-append, Option, Some, Result, Ok, Err, OnOk, slice_get, refl, sym, ◌∙◌, ap, subst, add-one, arith}
 use Rattle.std.specs.Option.{is_some}
 use Rattle.std.proofs.lemmas.Bool.Decides.{eqb_tells}
 use Rattle.lid_system.specs.declared.System.{System}
@@ -94,6 +94,9 @@ module _ (r : ClockRun) (run : Running) (given : List (List Bool)) (at : IsRunni
           let is = again.lacks in
           let more = one_longer given row in
           omega arith;
+      once = λ l b.
+          let before = begins_before r given row l b in
+          inr (subst (λ (k : ℕ). NeedsRow l k (length given)) (sym made) (needs l run.made (length given) (at.lives l before).ran), one_longer given row);
     }
 
   -- no row is needed
@@ -104,6 +107,7 @@ module _ (r : ClockRun) (run : Running) (given : List (List Bool)) (at : IsRunni
     feeds = feeds;
     further = λ l b. b;
     ready = λ l b. none l run.made (length given) (at.lives l b).ran;
+    once = λ l b. inl refl;
   }
 
   -- a cycle was made

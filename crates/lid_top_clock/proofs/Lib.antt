@@ -9,3 +9,5 @@ pub mod Fetched
 pub mod Lifetimes
 pub mod Rest
 pub mod Runs
+pub mod Feedings
+pub mod Askings

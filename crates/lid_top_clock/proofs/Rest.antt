@@ -10,7 +10,7 @@ use Rattle.lid_texts.specs.declared.rows.VecFault.{VecFault}
 use Rattle.lid_texts.specs.declared.rows.VecFault.TheVariants.{Changed}
 use Rattle.lid_texts.specs.Rows.{rows_reading}
 use Rattle.lid_top_refusals.specs.Faults.{rows_line}
-use Rattle.lid_texts_feed.specs.Feeds.{most_bytes, IsText, AreAll, AreFirstRows}
+use Rattle.lid_texts_feed.specs.Feeds.{most_bytes, IsText, AreAll, AreFirstRows, IsRefusedText}
 use Rattle.lid_texts_feed.proofs.Beginnings.{reading_wide}
 use Rattle.lid_top_script.specs.Scripts.{Reading, good, bad, rows_limit, vec_reading, bits_read, Rereading, reread_rows, IsReread, IsChanged, HasFewerRows}
 use Rattle.lid_top_script.specs.Causes.{Got}
@@ -43,12 +43,12 @@ pub record Falls (held : List ℕ → Option (List ℕ)) (d : Design) (vec : Lis
   pub text : IsText (held vec) bytes
   pub falls : HasFewerRows (vec_reading d bytes) rows line
 
-module _ (held : List ℕ → Option (List ℕ)) (d : Design) (vec : List ℕ) (rows : List (List Bool)) (got : Got held vec rows_limit (vec_reading d) rows) where
+module _ (held : List ℕ → Option (List ℕ)) (d : Design) (vec : List ℕ) (rows : List (List Bool)) (Asks : ℕ → Type 0) (got : Got held vec rows_limit (vec_reading d) rows) where
   abbrev outs : ℕ
   outs = length (root_outputs d)
 
   abbrev second : Rereading
-  second = reread_rows d vec rows
+  second = reread_rows d vec Asks rows
 
   first_text : Stands d got.bytes rows
   first_text = stands_for d got.bytes rows got.stands
@@ -88,6 +88,17 @@ module _ (held : List ℕ → Option (List ℕ)) (d : Design) (vec : List ℕ) (
   }
 
   module _ (columns : List (List ℕ)) (named : columns ≡ root_inputs d) where
+    -- the text of a file that is told is not refused
+    pub untold_refused : (fault : VecFault) → IsRefusedText (held vec) columns outs fault → held vec ≡ None
+    untold_refused fault refused = by (held vec) refl
+      where
+        by : (o : Option (List ℕ)) → held vec ≡ o → held vec ≡ None
+        by None is = is
+        by (Some file) is =
+            let reads : rows_reading columns outs refused.bytes ≡ Ok first_text.read =
+            ap (rows_reading columns outs) (same_text file refused.bytes is refused.fetched) ∙ ap (λ (names : List (List ℕ)). rows_reading names outs got.bytes) named ∙ first_text.reads in
+            absurd (let e : ◌≡◌ {A = Result Rows VecFault} (Ok first_text.read) (Err fault) = sym reads ∙ refused.refuses in cc)
+
     pub falls_few : (count found : ℕ) (given : List (List Bool)) → count ≡ length rows → AreAll (held vec) columns outs given → found ≡ length given → found < count → Falls held d vec rows (rows_line (Changed count found))
     falls_few count found given many all is few =
         let reads : vec_reading d all.bytes ≡ good given = vec_good d all.bytes columns outs (record { columns = columns; bits = given }) named refl all.reads in

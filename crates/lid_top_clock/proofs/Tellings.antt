@@ -165,7 +165,7 @@ module _ {O : Type 0} (written : O → Option (List ℕ)) (pieces : O → Option
     ended : fired_after l k (sink l) ≡ length l.setup.input
     ended = let most = sink_within l b.of.rules k in omega (arith, most, over)
 
-    first_end : IsFirstAt (λ j. fired_after l j (sink l)) (length l.setup.input) k
+    pub first_end : IsFirstAt (λ j. fired_after l j (sink l)) (length l.setup.input) k
     first_end = record { at = ended; first = first }
       where
         first : (j : ℕ) → fired_after l j (sink l) ≡ length l.setup.input → k ≤ j
@@ -202,7 +202,7 @@ module _ {O : Type 0} (written : O → Option (List ℕ)) (pieces : O → Option
     pub goes_on : goes ≡ true → HasNotEnded r run t.given
     goes_on is l b = (tells l run.made (length t.given) (t.fed.running.lives l b).ran).0 is
 
-    is_over : goes ≡ false → (l : Life) → LifeBegins r t.given l → IsBelow l run.made → ⊥
+    pub is_over : goes ≡ false → (l : Life) → LifeBegins r t.given l → IsBelow l run.made → ⊥
     is_over ends l b below = true≢false (sym ((tells l run.made (length t.given) (t.fed.running.lives l b).ran).1 below) ∙ ends)
 
     -- where it is over, the line that is pushed last ends the text

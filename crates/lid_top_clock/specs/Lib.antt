@@ -5,3 +5,4 @@ pub mod Pushing
 pub mod Stepping
 pub mod Clocking
 pub mod Stops
+pub mod Refetching

@@ -1,5 +1,5 @@
 -- What a run is between its cycles. This serves the code of this crate.
-use Rattle.std.specs.Prelude.{◌≡◌, ℕ, ◌+◌, ◌^◌, ◌<◌, ◌≤◌, min, Bool, List, [], length, Option}
+use Rattle.std.specs.Prelude.{◌≡◌, ◌⊎◌, ℕ, zero, suc, ◌+◌, ◌^◌, ◌<◌, ◌≤◌, min, Bool, List, [], length, Option}
 use Rattle.std.specs.Option.{is_some}
 use Rattle.lid_stations.specs.Placements.{station_count, Fits}
 use Rattle.lid_system.specs.declared.System.{System}
@@ -67,11 +67,33 @@ NeedsNoRow r run given = (l : Life) → LifeBegins r given l → NeedsRow l run.
 abbrev pub HasNotEnded : ClockRun → Running → List (List Bool) → Type 0
 HasNotEnded r run given = (l : Life) → LifeBegins r given l → IsBelow l run.made
 
+-- how many rows were asked for before a cycle: the first before any, and before each cycle the row after the one that the
+-- source puts next
+abbrev pub rows_asked : Life → ℕ → ℕ
+rows_asked l zero = min 1 (length l.setup.input)
+rows_asked l (suc k) = min (length l.setup.input) (fired_after l k 0 + 2)
+
+-- as many rows were given as were asked for before this cycle
+abbrev pub HasAsked : ClockRun → List (List Bool) → ℕ → Type 0
+HasAsked r given made = (l : Life) → LifeBegins r given l → length given ≡ rows_asked l made
+
 -- a run with its feed, that was given these rows
 pub record IsFed (r : ClockRun) (held : Option (List ℕ)) (run : Running) (feed : RowFeed) (given : List (List Bool)) : Type 0 where
   pub told : r.held ≡ held
   pub running : IsRunning r run given
   pub feeds : FeedGives r feed given
+  pub asked : HasAsked r given run.made
+
+-- a run that has begun with its feed
+pub record HasStarted (r : ClockRun) (run : Running) (feed : RowFeed) : Type 0 where
+  pub given : List (List Bool)
+  pub running : IsRunning r run given
+  pub feeds : FeedGives r feed given
+  pub one : length given ≡ min 1 r.rows
+
+-- as many rows are given as before, or the next one, where it is needed
+abbrev pub GivesOnce : ClockRun → List (List Bool) → List (List Bool) → ℕ → Type 0
+GivesOnce r before given made = (l : Life) → LifeBegins r given l → (length given ≡ length before) ⊎ (NeedsRow l made (length before) × (length given ≡ length before + 1))
 
 -- a run that was given rows so that it is ready
 pub record IsFedOn (r : ClockRun) (before : List (List Bool)) (run : Running) (feed : RowFeed) : Type 0 where
@@ -80,6 +102,7 @@ pub record IsFedOn (r : ClockRun) (before : List (List Bool)) (run : Running) (f
   pub feeds : FeedGives r feed given
   pub further : (l : Life) → LifeBegins r given l → LifeBegins r before l
   pub ready : NeedsNoRow r run given
+  pub once : GivesOnce r before given run.made
 
 -- a run that made a further cycle
 pub record HasMadeCycle (r : ClockRun) (before : List (List Bool)) (made : ℕ) (run : Running) (feed : RowFeed) : Type 0 where
@@ -89,6 +112,7 @@ pub record HasMadeCycle (r : ClockRun) (before : List (List Bool)) (made : ℕ) 
   pub further : (l : Life) → LifeBegins r given l → LifeBegins r before l
   pub one : run.made ≡ made + 1
   pub few : run.made < 2 ^ 64
+  pub asked : HasAsked r given run.made
 
 -- the rows for which the sink has fired were pushed
 abbrev pub HasTold : {O : Type 0} → ClockRun → List (List Bool) → ℕ → (O → Option (List ℕ)) → (O → Option (List (List ℕ))) → O → O → List ℕ → Type 0

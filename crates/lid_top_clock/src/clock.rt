@@ -3,7 +3,7 @@
 
 ghost use Rattle.std.specs.Prelude.{◌≡◌, ◌<◌, Bool, List};
 ghost use Rattle.lid_top_clock.specs.Clocking.{asked_script, after_stations, after_stalls, after_rows, after_trace, IsCounted};
-ghost use Rattle.lid_top_script.specs.Early.{RunsEarly};
+ghost use Rattle.lid_top_script.specs.Early.{RunsEarly, FetchesEarly};
 ghost use Rattle.lid_stall_text.specs.Holds.{Ascend, listed};
 
 use crate::asked::{Asked, Given};
@@ -32,6 +32,8 @@ pub fn run_clock<'a, S: Shelf, O: Sink, R: Threads + AllocGlobal + Sync, G: Gate
     requires some { 0 < workers.now.many }
     ensures ran { RunsEarly (S.held shelf.old) (asked_script asked.now)
         (S.faults shelf.old) (S.faults shelf.new) O.written O.pieces O.faults out.old out.new result }
+    ensures fetched { FetchesEarly S.whole (S.held shelf.old) (asked_script asked.now)
+        (S.fetches shelf.old) (S.fetches shelf.new) (S.faults shelf.old) (S.faults shelf.new) result }
     ensures kept { S.held shelf.new ≡ S.held shelf.old }
 {
     match read_wrapped(workers.rt.alloc(), shelf, &asked.files) {
@@ -51,6 +53,8 @@ fn run_wrapped<'a, S: Shelf, O: Sink, R: Threads + AllocGlobal + Sync, G: Gate>(
     requires some { 0 < workers.now.many }
     ensures ran { RunsEarly (S.held shelf.old) (after_stations asked.now wrapped.now)
         (S.faults shelf.old) (S.faults shelf.new) O.written O.pieces O.faults out.old out.new result }
+    ensures fetched { FetchesEarly S.whole (S.held shelf.old) (after_stations asked.now wrapped.now)
+        (S.fetches shelf.old) (S.fetches shelf.new) (S.faults shelf.old) (S.faults shelf.new) result }
     ensures kept { S.held shelf.new ≡ S.held shelf.old }
 {
     match read_job_stalls(workers.rt.alloc(), shelf, asked.stalls) {
@@ -72,6 +76,8 @@ fn run_stalled<'a, S: Shelf, O: Sink, R: Threads + AllocGlobal + Sync, G: Gate>(
     requires ascend { Ascend (listed stalls) }
     ensures ran { RunsEarly (S.held shelf.old) (after_stalls asked.now wrapped.now stalls)
         (S.faults shelf.old) (S.faults shelf.new) O.written O.pieces O.faults out.old out.new result }
+    ensures fetched { FetchesEarly S.whole (S.held shelf.old) (after_stalls asked.now wrapped.now stalls)
+        (S.fetches shelf.old) (S.fetches shelf.new) (S.faults shelf.old) (S.faults shelf.new) result }
     ensures kept { S.held shelf.new ≡ S.held shelf.old }
 {
     match count_rows(workers.rt.alloc(), shelf, wrapped, asked.vec) {
@@ -93,6 +99,9 @@ fn run_counted<'a, S: Shelf, O: Sink, R: Threads + AllocGlobal + Sync, G: Gate>(
     ensures ran { (rows : List (List Bool)) → IsCounted (S.held shelf.old) asked.now wrapped.now given.rows rows
         → RunsEarly (S.held shelf.old) (after_rows asked.now wrapped.now given.stalls rows)
         (S.faults shelf.old) (S.faults shelf.new) O.written O.pieces O.faults out.old out.new result }
+    ensures fetched { (rows : List (List Bool)) → IsCounted (S.held shelf.old) asked.now wrapped.now given.rows rows
+        → FetchesEarly S.whole (S.held shelf.old) (after_rows asked.now wrapped.now given.stalls rows)
+        (S.fetches shelf.old) (S.fetches shelf.new) (S.faults shelf.old) (S.faults shelf.new) result }
     ensures kept { S.held shelf.new ≡ S.held shelf.old }
 {
     match judge_trace(wrapped, &asked.trace) {
@@ -115,6 +124,9 @@ fn run_again<'a, S: Shelf, O: Sink, R: Threads + AllocGlobal + Sync, G: Gate>(
     ensures ran { (rows : List (List Bool)) → IsCounted (S.held shelf.old) asked.now wrapped.now given.rows rows
         → RunsEarly (S.held shelf.old) (after_trace asked.now wrapped.now given.stalls rows)
         (S.faults shelf.old) (S.faults shelf.new) O.written O.pieces O.faults out.old out.new result }
+    ensures fetched { (rows : List (List Bool)) → IsCounted (S.held shelf.old) asked.now wrapped.now given.rows rows
+        → FetchesEarly S.whole (S.held shelf.old) (after_trace asked.now wrapped.now given.stalls rows)
+        (S.fetches shelf.old) (S.fetches shelf.new) (S.faults shelf.old) (S.faults shelf.new) result }
     ensures kept { S.held shelf.new ≡ S.held shelf.old }
 {
     let checked = &wrapped.checked;

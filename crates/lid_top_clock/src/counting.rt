@@ -3,6 +3,7 @@
 ghost use Rattle.std.specs.Prelude.{◌≡◌, ℕ, ◌≤◌, List, IfOk, IfErr};
 ghost use Rattle.lid_top_clock.specs.Clocking.{FileHasRows};
 ghost use Rattle.lid_top_script.specs.Causes.{Misses};
+ghost use Rattle.lid_top_script.specs.Fetches.{FetchesFile};
 ghost use Rattle.lid_top_script.specs.Scripts.{rows_limit, vec_reading};
 
 use crate::stops::feed_stop;
@@ -19,6 +20,8 @@ pub(crate) fn count_rows<'a, S: Shelf>(
 ) -> Result<u64, Stop<'a>>
     ensures ok { IfOk result (FileHasRows (S.held shelf.old) wrapped.now.design vec.now) }
     ensures err { IfErr result (Misses (S.held shelf.old) vec.now rows_limit (vec_reading wrapped.now.design) (S.faults shelf.old) (S.faults shelf.new)) }
+    ensures fetched { FetchesFile S.whole (S.held shelf.old vec.now) vec.now rows_limit
+        (S.fetches shelf.old) (S.fetches shelf.new) (S.faults shelf.old) (S.faults shelf.new) result }
     ensures kept { S.held shelf.new ≡ S.held shelf.old }
     ensures grows { (q : List ℕ) → S.faults shelf.old q ≤ S.faults shelf.new q }
 {

@@ -1,6 +1,7 @@
 //! A run between its cycles.
 
 ghost use Rattle.std.specs.Prelude.{◌≡◌, ◌≤◌, ◌<◌, ◌+◌, ◌^◌, ◌++◌, ℕ, min, Bool, List, [], length, Option, None, Some, IfOk, IfErr, OnOk};
+ghost use Rattle.lid_base.specs.declared.outside.Fetch.{Fetch};
 ghost use Rattle.lid_base.specs.Outside.{Rose};
 ghost use Rattle.lid_base.specs.Each.{from_each};
 ghost use Rattle.lid_system.specs.Systems.{IsWellFormed};
@@ -13,7 +14,8 @@ ghost use Rattle.lid_top_clock.specs.Courses.{RanBy};
 ghost use Rattle.lid_texts_feed.specs.Fetching.{HasGiven, GivesRow};
 ghost use Rattle.lid_top_clock.specs.RunTexts.{cells_after, cycles_traced, traced, end_text};
 ghost use Rattle.lid_top_clock.specs.Runnings.{ClockRun, LifeBegins, IsRunCause, source_columns};
-ghost use Rattle.lid_top_clock.specs.Stepping.{HasBegun, FeedGives, IsRunning, NeedsNoRow, HasNotEnded, IsFed, IsFedOn, HasMadeCycle};
+ghost use Rattle.lid_top_clock.specs.Stepping.{HasBegun, HasStarted, FeedGives, IsRunning, NeedsNoRow, HasNotEnded, IsFed, IsFedOn, HasMadeCycle};
+ghost use Rattle.lid_top_clock.specs.Refetching.{FedBy, Feeding};
 
 use crate::course::Course;
 use crate::fault::RunFault;
@@ -58,6 +60,9 @@ fn next_row<S: Shelf>(
     ensures err { (r : ClockRun) (rows : List (List Bool)) → r.held ≡ S.held shelf.old feed.old.name → FeedGives r feed.old rows → given ≡ length rows
         → given < r.rows
         → IfErr result (IsRunCause r rows (Rose (S.faults shelf.old feed.old.name) (S.faults shelf.new feed.old.name)) ⊥) }
+    ensures fetched { (r : ClockRun) (rows : List (List Bool)) (first : Option (List Fetch)) → r.held ≡ S.held shelf.old feed.old.name
+        → FeedGives r feed.old rows → length rows < r.rows → FedBy S.whole r (length rows) first (S.fetches shelf.old) feed.old
+        → Feeding S.whole r feed.old.name (length rows + 1) first (S.fetches shelf.new) feed.new (S.faults shelf.old) (S.faults shelf.new) result }
     ensures name { feed.new.name ≡ feed.old.name }
     ensures kept { S.held shelf.new ≡ S.held shelf.old }
     ensures grows { (q : List ℕ) → S.faults shelf.old q ≤ S.faults shelf.new q }
@@ -142,11 +147,14 @@ impl Running {
             (source_columns task.now.system.now) (length columns) feed.old [] }
         ensures ok { (r : ClockRun) → r.system ≡ task.now.system.now → r.placement ≡ task.now.placement.now → r.rows ≡ task.now.rows → r.trace ≡ task.now.trace
             → r.stalls ≡ stalls → r.held ≡ S.held shelf.old feed.old.name → FeedGives r feed.old []
-            → IfOk result (λ run. (given : List (List Bool)) × IsRunning r run given × FeedGives r feed.new given) }
+            → IfOk result (λ run. HasStarted r run feed.new) }
         ensures made { IfOk result (λ run. run.made ≡ 0) }
         ensures err { (r : ClockRun) → r.system ≡ task.now.system.now → r.rows ≡ task.now.rows → r.held ≡ S.held shelf.old feed.old.name
             → FeedGives r feed.old []
             → IfErr result (IsRunCause r [] (Rose (S.faults shelf.old feed.old.name) (S.faults shelf.new feed.old.name)) ⊥) }
+        ensures fetched { (r : ClockRun) (first : Option (List Fetch)) → r.rows ≡ task.now.rows → r.held ≡ S.held shelf.old feed.old.name
+            → FeedGives r feed.old [] → FedBy S.whole r 0 first (S.fetches shelf.old) feed.old
+            → Feeding S.whole r feed.old.name (min 1 r.rows) first (S.fetches shelf.new) feed.new (S.faults shelf.old) (S.faults shelf.new) result }
         ensures name { feed.new.name ≡ feed.old.name }
         ensures kept { S.held shelf.new ≡ S.held shelf.old }
         ensures grows { (q : List ℕ) → S.faults shelf.old q ≤ S.faults shelf.new q }
@@ -169,6 +177,10 @@ impl Running {
         ensures made { OnOk result (self.new.made ≡ self.old.made) }
         ensures err { (r : ClockRun) (given : List (List Bool)) → IsFed r (S.held shelf.old feed.old.name) self.old feed.old given
             → IfErr result (IsRunCause r given (Rose (S.faults shelf.old feed.old.name) (S.faults shelf.new feed.old.name)) ⊥) }
+        ensures fetched { (r : ClockRun) (given : List (List Bool)) (first : Option (List Fetch))
+            → IsFed r (S.held shelf.old feed.old.name) self.old feed.old given
+            → FedBy S.whole r self.old.given first (S.fetches shelf.old) feed.old
+            → Feeding S.whole r feed.old.name self.new.given first (S.fetches shelf.new) feed.new (S.faults shelf.old) (S.faults shelf.new) result }
         ensures name { feed.new.name ≡ feed.old.name }
         ensures kept { S.held shelf.new ≡ S.held shelf.old }
         ensures grows { (q : List ℕ) → S.faults shelf.old q ≤ S.faults shelf.new q }
@@ -234,6 +246,11 @@ impl Running {
         ensures err { (r : ClockRun) (given : List (List Bool)) → IsFed r (S.held shelf.old feed.old.name) self.old feed.old given
             → HasNotEnded r self.old given
             → IfErr result (IsRunCause r given (Rose (S.faults shelf.old feed.old.name) (S.faults shelf.new feed.old.name)) ⊥) }
+        ensures fetched { (r : ClockRun) (given : List (List Bool)) (first : Option (List Fetch))
+            → IsFed r (S.held shelf.old feed.old.name) self.old feed.old given
+            → HasNotEnded r self.old given
+            → FedBy S.whole r self.old.given first (S.fetches shelf.old) feed.old
+            → Feeding S.whole r feed.old.name self.new.given first (S.fetches shelf.new) feed.new (S.faults shelf.old) (S.faults shelf.new) result }
         ensures name { feed.new.name ≡ feed.old.name }
         ensures kept { S.held shelf.new ≡ S.held shelf.old }
         ensures grows { (q : List ℕ) → S.faults shelf.old q ≤ S.faults shelf.new q }

@@ -1,12 +1,14 @@
 //! Running a system over the rows of a file, and telling it as it goes.
 
 ghost use Rattle.std.specs.Prelude.{◌≡◌, ℕ, ◌<◌, ◌≤◌, Bool, List, [], length, Option, OnOk, IfErr};
+ghost use Rattle.lid_base.specs.declared.outside.Fetch.{Fetch};
 ghost use Rattle.lid_base.specs.Outside.{Rose};
 ghost use Rattle.lid_system.specs.Systems.{IsWellFormed};
 ghost use Rattle.lid_stations.specs.Placements.{Fits};
 ghost use Rattle.lid_texts_feed.specs.Fetching.{HasGiven};
 ghost use Rattle.lid_top_clock.specs.Runnings.{ClockRun, run_by, source_columns, HasRun, HasStopped};
 ghost use Rattle.lid_top_clock.specs.Stepping.{IsFed, IsRunOf};
+ghost use Rattle.lid_top_clock.specs.Refetching.{FedBy, RunFetches};
 ghost use Rattle.lid_stall_text.specs.Holds.{Ascend, listed};
 
 use crate::fault::RunFault;
@@ -43,6 +45,9 @@ fn tell_run<S: Shelf, O: Sink, R: Threads + Sync, G: Gate>(
         → IsFed r (S.held shelf.old feed.old.name) run.old feed.old given
         → IfErr result (HasStopped r O.written O.pieces out.old out.new
         (Rose (S.faults shelf.old feed.old.name) (S.faults shelf.new feed.old.name)) (Rose (O.faults out.old) (O.faults out.new))) }
+    ensures fetched { (r : ClockRun) (given : List (List Bool)) (first : Option (List Fetch)) → IsRunOf r task.now.system.now task.now.columns.now
+        → IsFed r (S.held shelf.old feed.old.name) run.old feed.old given → FedBy S.whole r run.old.given first (S.fetches shelf.old) feed.old
+        → RunFetches S.whole r feed.old.name first (S.fetches shelf.new) (S.faults shelf.old) (S.faults shelf.new) result }
     ensures kept { S.held shelf.new ≡ S.held shelf.old }
     ensures grows { (q : List ℕ) → S.faults shelf.old q ≤ S.faults shelf.new q }
     ensures rises { O.faults out.old ≤ O.faults out.new }
@@ -77,6 +82,9 @@ fn tell_run<S: Shelf, O: Sink, R: Threads + Sync, G: Gate>(
 /// begin with those that the feed gave. `Feed` hands on the fault of the feed, where `Read` comes only where the
 /// count of its name rose in this call. `Few` tells how many rows the text has, where it ended without a fault
 /// after fewer rows. `Write` comes only where the count of `out` rose in this call. `Memory` may come at any text.
+///
+/// Where the shelf tells its fetches, they are those that the rows need which the run asks for: where it tells the
+/// file too and gives as many bytes as there is room for, exactly those that begin before these rows have ended.
 pub fn run<S: Shelf, O: Sink, R: Threads + AllocGlobal + Sync, G: Gate>(
     shelf: &mut S,
     out: &mut O,
@@ -94,6 +102,10 @@ pub fn run<S: Shelf, O: Sink, R: Threads + AllocGlobal + Sync, G: Gate>(
     ensures ok { OnOk result (HasRun (run_by task.now stalls (S.held shelf.old feed.old.name)) O.written O.pieces out.old out.new) }
     ensures err { IfErr result (HasStopped (run_by task.now stalls (S.held shelf.old feed.old.name)) O.written O.pieces out.old out.new
         (Rose (S.faults shelf.old feed.old.name) (S.faults shelf.new feed.old.name)) (Rose (O.faults out.old) (O.faults out.new))) }
+    ensures fetched { (first : Option (List Fetch))
+        → FedBy S.whole (run_by task.now stalls (S.held shelf.old feed.old.name)) 0 first (S.fetches shelf.old) feed.old
+        → RunFetches S.whole (run_by task.now stalls (S.held shelf.old feed.old.name)) feed.old.name
+        first (S.fetches shelf.new) (S.faults shelf.old) (S.faults shelf.new) result }
     ensures kept { S.held shelf.new ≡ S.held shelf.old }
     ensures grows { (q : List ℕ) → S.faults shelf.old q ≤ S.faults shelf.new q }
     ensures rises { O.faults out.old ≤ O.faults out.new }

@@ -9,20 +9,21 @@ use Rattle.lid_base_io.proofs.Came.{none_came, both_came}
 use Rattle.lid_design.specs.declared.Design.{Design}
 use Rattle.lid_stations.specs.declared.placement.Placement.{Placement}
 use Rattle.lid_stations.specs.Placements.{Links, links_of}
+use Rattle.lid_stall_text.specs.declared.stalls.Stall.{Stall}
 use Rattle.lid_top_script.specs.declared.fault.Stop.{Stop}
 use Rattle.lid_top_script.specs.Outputs.{Output, IsTextOf}
-use Rattle.lid_top_script.specs.Scripts.{gives, Script, end as ended, Reading, read_step, net_limit, check_step, system_step, wrapped_step, IsChecked}
+use Rattle.lid_top_script.specs.Scripts.{gives, Script, end as ended, Reading, good, read_then, read_step, net_limit, check_step, system_step, wrapped_step, stalls_step, IsChecked}
 use Rattle.lid_top_script.specs.Wrapped.{Building, Wrapping}
-use Rattle.lid_top_script.specs.Causes.{Got, GotSystem, GotWrapped, FailsCheck, Misses, MissesSystem, MissesWrapped, MissesStations, IsCause, IsWant}
-use Rattle.lid_top_script.specs.Fetches.{at_end, GoesBy, halt_of, StepsBy, FetchesFile, FetchesStations, StationsCalls, StationsPart, FetchesWrapped, FetchesNothing}
+use Rattle.lid_top_script.specs.Causes.{Got, GotSystem, GotWrapped, GotStalls, FailsCheck, Misses, MissesSystem, MissesWrapped, MissesStations, IsCause, IsWant}
+use Rattle.lid_top_script.specs.Fetches.{at_end, GoesBy, halt_of, StepsBy, FetchesFile, FetchesNamed, NamedCalls, NamedPart, FetchesWrapped, FetchesNothing}
 use Rattle.lid_top_script.specs.Whole.{RunsAnywhere, FetchesWhole, RunsBy}
 use Rattle.lid_top_script.proofs.Composition.{cause_here, cause_unchecked}
 use Rattle.lid_top_script.proofs.Placements.{cause_unbuilt, cause_unwrapped}
-use Rattle.lid_top_script.proofs.Within.{Within, within_same, within_read, within_checked, within_built, within_wrapped, whole_within, whole_stopped, whole_given, whole_anywhere}
-use Rattle.lid_top_script.proofs.Going.{for_any, still_any, still_later, Leads, goes_last, leads_same, leads_read, leads_checked, leads_built, leads_wrapped, goes_wanting, goes_unchecked, goes_here, goes_unbuilt, goes_unwrapped, goes_for_cause, goes_nothing}
+use Rattle.lid_top_script.proofs.Within.{Within, within_same, within_read, within_step, within_checked, within_built, within_wrapped, within_stalled, whole_within, whole_stopped, whole_given, whole_anywhere}
+use Rattle.lid_top_script.proofs.Going.{for_any, still_any, still_later, Leads, goes_last, leads_same, leads_read, leads_checked, leads_built, leads_wrapped, leads_stalled, leads_step, goes_wanting, goes_unchecked, goes_here, goes_unbuilt, goes_unwrapped, goes_for_cause, goes_nothing}
 
 -- calls that came after others
-came_then : {A : Type 0} {P Q R : List A → Type 0} (old mid new : Option (List A)) → CameAs old mid P → CameAs mid new Q → ((first rest : List A) → P first → Q rest → R (first ++ rest)) → CameAs old new R
+pub came_then : {A : Type 0} {P Q R : List A → Type 0} (old mid new : Option (List A)) → CameAs old mid P → CameAs mid new Q → ((first rest : List A) → P first → Q rest → R (first ++ rest)) → CameAs old new R
 came_then old mid new (first, a, p) (rest, b, q) both = (first ++ rest, both_came old mid new first rest a b, both first rest p q)
 
 ok_given : {A E : Type 0} {P : Type 0} (r : Result A E) → P → OnOk r P
@@ -55,14 +56,14 @@ wraps_not m f = record { done = tt; begun = (f.begun.0, f.begun.1, inl (m, f.beg
 
 -- the netlist and then the stations are had
 pub wraps : {A B C : Type 0} {whole : Bool} {held now : List ℕ → Option (List ℕ)} {net : List ℕ} {stations root : Option (List ℕ)} {old mid new : Option (List Fetch)} {before between after : List ℕ → ℕ} {a : A} {b : B} {c : C}
-    → FetchesFile {A = A} whole (held net) net net_limit old mid before between (Ok a) → now ≡ held → FetchesStations {A = B} whole now stations mid new between after (Ok b) → FetchesWrapped {A = C} whole held net stations root old new before after (Ok c)
+    → FetchesFile {A = A} whole (held net) net net_limit old mid before between (Ok a) → now ≡ held → FetchesNamed {A = B} whole now stations mid new between after (Ok b) → FetchesWrapped {A = C} whole held net stations root old new before after (Ok c)
 wraps {whole = whole} {stations = stations} {old = old} {mid = mid} {new = new} f same s = record {
   done = came_then old mid new f.done s.done (λ first rest p q. record {
     first = first;
     rest = rest;
     are = refl;
     of_net = p;
-    of_stations = subst (λ (h : List ℕ → Option (List ℕ)). StationsCalls whole h stations rest) same q;
+    of_stations = subst (λ (h : List ℕ → Option (List ℕ)). NamedCalls whole h stations rest) same q;
   });
   begun = tt;
   still = λ q. s.still q ∙ f.still q;
@@ -72,7 +73,7 @@ wraps {whole = whole} {stations = stations} {old = old} {mid = mid} {new = new} 
 -- the netlist is had, and no stations
 pub wraps_in_part : {A B C : Type 0} {whole : Bool} {held now : List ℕ → Option (List ℕ)} {net : List ℕ} {stations root : Option (List ℕ)} {old mid new : Option (List Fetch)} {before between after : List ℕ → ℕ} {a : A} {stop : Stop}
     → FetchesFile {A = A} whole (held net) net net_limit old mid before between (Ok a) → now ≡ held → MissesStations held net stations root before after stop
-    → FetchesStations {A = B} whole now stations mid new between after (Err stop) → FetchesWrapped {A = C} whole held net stations root old new before after (Err stop)
+    → FetchesNamed {A = B} whole now stations mid new between after (Err stop) → FetchesWrapped {A = C} whole held net stations root old new before after (Err stop)
 wraps_in_part {whole = whole} {stations = stations} {old = old} {mid = mid} {new = new} {before = before} {between = between} {after = after} {stop = stop} f same m s = record {
   done = tt;
   begun = came_then old mid new f.done s.begun (λ first rest p q. inr (record {
@@ -81,7 +82,7 @@ wraps_in_part {whole = whole} {stations = stations} {old = old} {mid = mid} {new
     rest = rest;
     are = refl;
     of_net = p;
-    of_stations = subst (λ (h : List ℕ → Option (List ℕ)). StationsPart whole h stations stop rest) same q;
+    of_stations = subst (λ (h : List ℕ → Option (List ℕ)). NamedPart whole h stations stop rest) same q;
   }));
   still = tt;
   still_at = still_later stop before between after f.still s.still_at;
@@ -125,6 +126,16 @@ module _ {whole : Bool} {held now : List ℕ → Option (List ℕ)} {old new : O
     still = f.still;
   }
 
+  -- the stalls of the job are known
+  pub made_stalled : {B : Type 0} {x : B} (stalls : Option (List ℕ)) (next : Option (List Stall) → Script) (read : Option (List Stall)) → GotStalls held stalls read
+      → FetchesNamed {A = B} whole held stalls old new before after (Ok x) → now ≡ held → Made whole held now old new before after (next read) (stalls_step stalls next)
+  made_stalled stalls next read g f same = record {
+    within = within_stalled held next stalls read g;
+    leads = (f.done.0, f.done.1, leads_stalled whole held next stalls read f.done.0 g f.done.2);
+    same = same;
+    still = f.still;
+  }
+
 module _ {whole : Bool} {held : List ℕ → Option (List ℕ)} {old : Option (List Fetch)} {before : List ℕ → ℕ} where
   made_here : {inner outer : Script} → Within held inner outer → Leads whole held [] inner outer → Made whole held held old old before before inner outer
   made_here w l = record { within = w; leads = ([], none_came old, l); same = refl; still = λ q. refl }
@@ -136,6 +147,10 @@ module _ {whole : Bool} {held : List ℕ → Option (List ℕ)} {old : Option (L
   -- a design was checked
   pub made_checked : {root : Option (List ℕ)} {d : Design} {next : Design → Script} {checked : Design} → IsChecked root d checked → Made whole held held old old before before (next checked) (check_step root d next)
   made_checked {root = root} {d = d} {next = next} {checked = checked} is = made_here (within_checked held root d next checked is) (leads_checked whole held root d next checked is)
+
+  -- a reading decided the step
+  pub made_step : {A : Type 0} (reading : Reading A) (next : A → Script) {a : A} → reading ≡ good a → Made whole held held old old before before (next a) (read_then reading next)
+  made_step reading next {a = a} is = made_here (within_step held reading next a is) (leads_step whole held reading next a is)
 
 -- a run of the inner script, over the shelf that a step has left
 pub by_within : {whole : Bool} {held now later : List ℕ → Option (List ℕ)} {inner outer : Script} {old mid new : Option (List Fetch)} {before between after : List ℕ → ℕ} {result : Result (Vec ℕ Global) Stop}

@@ -7,13 +7,14 @@ use Rattle.lid_design.specs.declared.Design.{Design}
 use Rattle.lid_system.specs.declared.Channel.{Channel}
 use Rattle.lid_stations.specs.declared.placement.Placement.{Placement}
 use Rattle.lid_stations.specs.Placements.{Links, links_of, no_relays}
+use Rattle.lid_stall_text.specs.declared.stalls.Stall.{Stall}
 use Rattle.lid_top_refusals.specs.Refusals.{refusal_line}
 use Rattle.lid_top_script.specs.declared.fault.Stop.{Stop}
 use Rattle.lid_top_script.specs.declared.fault.Stop.TheVariants.{Refused, Read, Memory, Denied}
-use Rattle.lid_top_script.specs.Scripts.{Ending, refuses, denies, Script, fetch, again, decide, end as ended, Reading, good, read_then, read_step, net_limit, net_reading, check_step, net_step, system_step, wrapped_step, IsChecked, IsUnchecked, HasChannels, IsOverfull, links, text_limit, stations_read, placement_step, EndsIn, ReachesFetch}
+use Rattle.lid_top_script.specs.Scripts.{Ending, refuses, denies, Rereading, Script, fetch, again, decide, end as ended, Reading, good, read_then, read_step, net_limit, net_reading, check_step, net_step, system_step, wrapped_step, IsChecked, IsUnchecked, HasChannels, IsOverfull, links, text_limit, stations_read, placement_step, stalls_read, stalls_step, EndsIn, ReachesFetch}
 use Rattle.lid_top_script.specs.Wrapped.{Building, Wrapping}
-use Rattle.lid_top_script.specs.Causes.{Got, GotSystem, GotPlacement, GotWrapped, Refuses, HasTooMany, FailsCheck, Misses, MissesSystem, MissesPlacement, IsCause, IsWant}
-use Rattle.lid_top_script.specs.Fetches.{Halt, at_end, between, GoesBy, halt_of, StillAt, FetchesFor, StationsCalls, StationsPart, WrappedCalls, MissesWrappedBy, FetchesNothing}
+use Rattle.lid_top_script.specs.Causes.{Got, GotSystem, GotPlacement, GotWrapped, GotStalls, Refuses, Declines, HasTooMany, FailsCheck, Misses, MissesSystem, MissesPlacement, MissesStalls, IsCause, IsWant}
+use Rattle.lid_top_script.specs.Fetches.{Halt, at_end, between, refetches_of, IsRefetchingPart, GoesBy, halt_of, StillAt, FetchesFor, NamedCalls, NamedPart, WrappedCalls, MissesWrappedBy, FetchesNothing}
 
 -- no fetches are some first ones of a file
 none_of : (whole : Bool) (held : Option (List ℕ)) (name : List ℕ) (limit : ℕ) → IsFetchingPart whole held name limit []
@@ -38,6 +39,21 @@ part_of_all whole held name limit calls f = record {
     by (Some bytes) h =
         let all = fetches_of name limit (length bytes) in
         (length all, h ∙ sym (take_all (length all) all (omega arith)))
+
+-- no fetches are some first ones of a second reading
+none_again : (whole : Bool) (held : Option (List ℕ)) (second : Rereading) → IsRefetchingPart whole held second []
+none_again whole held second = record { part = none_of whole held second.name second.limit; exact = λ _. by held }
+  where
+    by : (file : Option (List ℕ)) → IfSome file (λ bytes. (k : ℕ) × ([] ≡ take k (refetches_of second (length second.rows) bytes)))
+    by None = tt
+    by (Some bytes) = (0, refl)
+
+-- of a file that is not told all fetches are some first ones
+pub part_of_changed : (whole : Bool) (held : Option (List ℕ)) (second : Rereading) (calls : List Fetch) → held ≡ None → IsFetching whole held second.name second.limit calls → IsRefetchingPart whole held second calls
+part_of_changed whole held second calls untold f = record {
+  part = part_of_all whole held second.name second.limit calls f;
+  exact = λ _. subst (λ (file : Option (List ℕ)). IfSome file (λ bytes. (k : ℕ) × (calls ≡ take k (refetches_of second (length second.rows) bytes)))) (sym untold) tt;
+}
 
 -- all fetches of a file are those that are made whatever the reason
 pub for_any : (stop : Stop) (whole : Bool) (held : Option (List ℕ)) (name : List ℕ) (limit : ℕ) (calls : List Fetch) → IsFetching whole held name limit calls → FetchesFor stop whole held name limit calls
@@ -117,13 +133,27 @@ module _ (whole : Bool) (held : List ℕ → Option (List ℕ)) where
       (leads_linked b.design on b.system.channels l g.builds.has g.builds.links_are)
 
   -- the placement of the job is known
-  leads_placed : (l : Links) (next : Placement → Script) (stations : Option (List ℕ)) (p : Placement) (first : List Fetch) → GotPlacement held l stations p → StationsCalls whole held stations first → Leads first (next p) (placement_step l stations next)
+  leads_placed : (l : Links) (next : Placement → Script) (stations : Option (List ℕ)) (p : Placement) (first : List Fetch) → GotPlacement held l stations p → NamedCalls whole held stations first → Leads first (next p) (placement_step l stations next)
   leads_placed l next None p first g none = record {
     goes = λ rest halt goes.
         subst (λ (calls : List Fetch). GoesBy whole held (next (no_relays l)) (calls ++ rest) halt) (sym none)
         (subst (λ (x : Placement). GoesBy whole held (next x) rest halt) g goes);
   }
   leads_placed l next (Some stations) p first g f = leads_read stations text_limit (stations_read l) next p first g f
+
+  -- the stalls of the job are known
+  pub leads_stalled : (next : Option (List Stall) → Script) (stalls : Option (List ℕ)) (read : Option (List Stall)) (first : List Fetch) → GotStalls held stalls read → NamedCalls whole held stalls first → Leads first (next read) (stalls_step stalls next)
+  leads_stalled next None read first g none = record {
+    goes = λ rest halt goes.
+        subst (λ (calls : List Fetch). GoesBy whole held (next None) (calls ++ rest) halt) (sym none)
+        (subst (λ (x : Option (List Stall)). GoesBy whole held (next x) rest halt) g goes);
+  }
+  leads_stalled next (Some stalls) None first g f = absurd g
+  leads_stalled next (Some stalls) (Some read) first g f = leads_read stalls text_limit stalls_read (λ list. next (Some list)) read first g f
+
+  -- a reading decided the step
+  pub leads_step : {A : Type 0} (reading : Reading A) (next : A → Script) (a : A) → reading ≡ good a → Leads [] (next a) (read_then reading next)
+  leads_step reading next a is = record { goes = λ rest halt goes. subst (λ r. GoesBy whole held (read_then r next) rest halt) (sym is) goes }
 
   -- a netlist was fetched, read and checked, its system built, and the placement of the job is known
   pub leads_wrapped : (net : List ℕ) (stations root : Option (List ℕ)) (next : Design → Links → Placement → Script) (w : Wrapping) (calls : List Fetch) → GotWrapped held net stations root w → WrappedCalls whole held net stations calls
@@ -139,7 +169,7 @@ module _ (whole : Bool) (held : List ℕ → Option (List ℕ)) where
   -- memory may be wanting before any step
   goes_between : (script : Script) → GoesBy whole held script [] between
   goes_between (fetch name limit next) = inl (tt, none_of whole (held name) name limit)
-  goes_between (again second next) = inl (tt, none_of whole (held second.name) second.name second.limit)
+  goes_between (again second next) = inl (tt, none_again whole (held second.name) second)
   goes_between (decide {A} Good Bad next) = inl (refl, refl)
   goes_between (ended last) = (refl, inr refl)
 
@@ -155,7 +185,7 @@ module _ (whole : Bool) (held : List ℕ → Option (List ℕ)) where
   goes_short (fetch name limit next) calls ending (inr (bytes, first, rest, are, fetched, all, goes)) = inr (bytes, first, rest, are, fetched, all, goes_short (next bytes) rest ending goes)
   goes_short (again second next) calls ending (inl here) = absurd here.0
   goes_short (again second next) calls ending (inr (inl (rows, first, rest, are, reread, some, goes))) = inr (inl (rows, first, rest, are, reread, some, goes_short (next rows) rest ending goes))
-  goes_short (again second next) calls ending (inr (inr (line, changed, some, is))) = inl (tt, some)
+  goes_short (again second next) calls ending (inr (inr (line, changed, all, is))) = inl (tt, part_of_changed whole (held second.name) second calls changed.untold all)
   goes_short (decide {A} Good Bad next) calls ending (inl here) = inl (here.0, refl)
   goes_short (decide {A} Good Bad next) calls ending (inr (inl (a, g, goes))) = inr (inl (a, g, goes_short (next a) calls ending goes))
   goes_short (decide {A} Good Bad next) calls ending (inr (inr (line, b, none, is))) = inl (none, refl)
@@ -206,11 +236,24 @@ module _ (whole : Bool) (held : List ℕ → Option (List ℕ)) where
     goes_unbuilt before after Denied calls m f = absurd m
 
   -- there is no placement
-  goes_unplaced : (l : Links) (next : Placement → Script) (stations : Option (List ℕ)) (before after : List ℕ → ℕ) (stop : Stop) (calls : List Fetch) → MissesPlacement held l stations before after stop → StationsPart whole held stations stop calls
+  goes_unplaced : (l : Links) (next : Placement → Script) (stations : Option (List ℕ)) (before after : List ℕ → ℕ) (stop : Stop) (calls : List Fetch) → MissesPlacement held l stations before after stop → NamedPart whole held stations stop calls
       → GoesBy whole held (placement_step l stations next) calls (halt_of stop)
   goes_unplaced l next None before after stop calls m none =
       subst (λ (cs : List Fetch). GoesBy whole held (next (no_relays l)) cs (halt_of stop)) (sym none) (goes_wanting (next (no_relays l)) stop m)
   goes_unplaced l next (Some stations) before after stop calls m f = goes_here stations text_limit (stations_read l) next before after stop calls m f
+
+  -- the stalls are not had
+  pub goes_unstalled : (next : Option (List Stall) → Script) (stalls : Option (List ℕ)) (before after : List ℕ → ℕ) (stop : Stop) (calls : List Fetch) → MissesStalls held stalls before after stop → NamedPart whole held stalls stop calls
+      → GoesBy whole held (stalls_step stalls next) calls (halt_of stop)
+  goes_unstalled next None before after stop calls m none = absurd m
+  goes_unstalled next (Some stalls) before after stop calls m f = goes_here stalls text_limit stalls_read (λ read. next (Some read)) before after stop calls m f
+
+  -- a reading refuses
+  pub goes_declined : {A : Type 0} (reading : Reading A) (next : A → Script) (stop : Stop) → Declines reading stop → GoesBy whole held (read_then reading next) [] (halt_of stop)
+  goes_declined reading next (Refused refusal) d = subst (λ r. GoesBy whole held (read_then r next) [] (at_end (refuses (refusal_line refusal)))) (sym d) (refl, inl refl)
+  goes_declined reading next (Read file) d = absurd d
+  goes_declined reading next Memory d = goes_between (read_then reading next)
+  goes_declined reading next Denied d = absurd d
 
   -- the netlist or the stations are not had
   pub goes_unwrapped : (net : List ℕ) (stations root : Option (List ℕ)) (next : Design → Links → Placement → Script) (before after : List ℕ → ℕ) (stop : Stop) (calls : List Fetch)

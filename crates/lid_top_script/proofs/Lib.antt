@@ -8,3 +8,4 @@ pub mod Tokens
 pub mod Stalls
 pub mod Going
 pub mod Fetched
+pub mod EarlyFetches

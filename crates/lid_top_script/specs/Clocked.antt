@@ -1,6 +1,6 @@
 -- What `clock` writes, said of the design alone: the output rows, and what the stations and nodes of its
 -- system do.
-use Rattle.std.specs.Prelude.{◌≡◌, ℕ, ◌-◌, min, Bool, List, [], ◌++◌, length, map, slice_index_or, Option, Some, None}
+use Rattle.std.specs.Prelude.{◌≡◌, ℕ, ◌+◌, ◌-◌, min, Bool, List, [], ◌++◌, length, map, slice_index_or, Option, Some, None}
 use Rattle.std.specs.List.{flat_map}
 use Rattle.lid_base.specs.declared.runs.Shown.{Shown}
 use Rattle.lid_cover.specs.Masks.{packed}
@@ -59,6 +59,13 @@ nodes_fired l p rows held cycles = from_each (fired_in l p rows held cycles) 0 l
 abbrev pub traced : Design → Table Column → Links → Placement → ℕ → Hold → ℕ → Option ℕ → List ℕ
 traced d b l p rows held cycles None = []
 traced d b l p rows held cycles (Some most) = trace_text (trace_under d b l p rows held (min most cycles))
+
+-- how many of its rows a clocked run asks for: before each cycle, up to the last, the row after the one that the source
+-- puts next; so all of them, but where the sink has fired for each row before the source has put them
+pub record AsksFor (l : Links) (p : Placement) (rows : ℕ) (stalls : Option (List Stall)) (asked : ℕ) : Type 0 where
+  pub cycles : ℕ
+  pub ends : IsFirstAtCap (marking l p) (cap_of l rows) (hold_of stalls (sink_of l)) (sink_of l) cycles
+  pub asked_is : asked ≡ min rows (fired_in l p rows (hold_of stalls (sink_of l)) (cycles - 1) 0 + 2)
 
 -- how `clock` ends: in how many cycles the sink has fired once for each row, how often the nodes have fired then, in
 -- how many cycles somebody was held, where stalls are given, and the trace

@@ -1,39 +1,67 @@
 -- Which fetches a script makes, and where it halts.
-use Rattle.std.specs.Prelude.{◌≡◌, ◌≢◌, ℕ, Bool, List, [], ◌++◌, Option, Some, None, Result, IfOk, OnOk, IfErr, ◌⊎◌}
+use Rattle.std.specs.Prelude.{◌≡◌, ◌≢◌, ℕ, nat_lt, Bool, true, List, [], ◌++◌, length, take, Option, Some, None, IfSome, Result, IfOk, OnOk, IfErr, ◌⊎◌}
+use Rattle.std.specs.List.{filter}
 use Rattle.lid_base.specs.declared.outside.Fetch.{Fetch}
-use Rattle.lid_base_io.specs.Calls.{CameAs, IsFetching, IsFetchingPart}
+use Rattle.lid_base_io.specs.Calls.{CameAs, fetches_of, IsFetching, IsFetchingPart}
 use Rattle.lid_top_refusals.specs.Refusals.{refusal_line}
 use Rattle.lid_top_script.specs.declared.fault.Stop.{Stop}
 use Rattle.lid_top_script.specs.declared.fault.Stop.TheVariants.{Refused, Read, Memory, Denied}
 use Rattle.lid_top_script.specs.Outputs.{Output, IsTextOf}
-use Rattle.lid_top_script.specs.Scripts.{Ending, refuses, denies, gives, Script, fetch, again, decide, end, net_limit, text_limit, IsFetched, IsReread, IsChanged}
+use Rattle.lid_top_script.specs.Scripts.{Ending, refuses, denies, gives, Rereading, Script, fetch, again, decide, end, net_limit, text_limit, IsFetched, IsReread, IsChanged}
 use Rattle.lid_top_script.specs.Causes.{MissesSystem, MissesStations}
 
 -- where a script halts
 pub data Halt : Type 0 where
   at_end : Ending → Halt
   at_fetch : List ℕ → Halt  -- a fetch of this file failed
+  at_write : Halt  -- a write failed while a file was read a second time
   between : Halt  -- memory was wanting
 
 -- a script may halt so while it fetches this file
 abbrev pub HaltsIn : Halt → List ℕ → Type 0
 HaltsIn (at_end ending) name = ⊥
 HaltsIn (at_fetch file) name = name ≡ file
+HaltsIn at_write name = ⊥
 HaltsIn between name = Unit {0}
 
+-- or while it reads this file a second time
+abbrev pub HaltsInAgain : Halt → List ℕ → Type 0
+HaltsInAgain (at_end ending) name = ⊥
+HaltsInAgain (at_fetch file) name = name ≡ file
+HaltsInAgain at_write name = Unit {0}
+HaltsInAgain between name = Unit {0}
+
+-- those fetches of a file, where each gives as many bytes as there is room for or as are left, that begin before so many
+-- of its rows have ended
+abbrev pub refetches_of : Rereading → ℕ → List ℕ → List Fetch
+refetches_of second rows file = filter (λ call. nat_lt (second.ended (take call.at file)) rows) (fetches_of second.name second.limit (length file))
+
+-- the fetches of a file whose rows are read a second time: piece after piece, and from a whole shelf exactly those that
+-- begin before the rows that are asked for have ended
+pub record IsRefetching (whole : Bool) (held : Option (List ℕ)) (second : Rereading) (calls : List Fetch) : Type 0 where
+  pub asked : ℕ
+  pub asks : second.Asks asked
+  pub part : IsFetchingPart whole held second.name second.limit calls
+  pub exact : whole ≡ true → IfSome held (λ file. calls ≡ refetches_of second asked file)
+
+-- some first fetches of such a file: from a whole shelf, of those that begin before all its rows have ended
+pub record IsRefetchingPart (whole : Bool) (held : Option (List ℕ)) (second : Rereading) (calls : List Fetch) : Type 0 where
+  pub part : IsFetchingPart whole held second.name second.limit calls
+  pub exact : whole ≡ true → IfSome held (λ file. (k : ℕ) × (calls ≡ take k (refetches_of second (length second.rows) file)))
+
 -- the script goes by these fetches until it halts so, for some bytes of its files, those told where they are told: all
--- fetches of each file that it comes to, in order, and some first ones of the file in which it halts and of one whose
--- rows are read a second time
+-- fetches of each file that it comes to, in order, and some first ones of the file in which it halts; and those that are
+-- needed of a file whose rows are read a second time, or all, where that has changed
 abbrev pub GoesBy : Bool → (List ℕ → Option (List ℕ)) → Script → List Fetch → Halt → Type 0
 GoesBy whole held (fetch name limit next) calls halt =
     (HaltsIn halt name × IsFetchingPart whole (held name) name limit calls)
     ⊎ ((bytes : List ℕ) × (first : List Fetch) × (rest : List Fetch) × (calls ≡ first ++ rest)
     × IsFetched held name limit bytes × IsFetching whole (held name) name limit first × GoesBy whole held (next bytes) rest halt)
 GoesBy whole held (again second next) calls halt =
-    (HaltsIn halt second.name × IsFetchingPart whole (held second.name) second.name second.limit calls)
+    (HaltsInAgain halt second.name × IsRefetchingPart whole (held second.name) second calls)
     ⊎ ((rows : List (List Bool)) × (first : List Fetch) × (rest : List Fetch) × (calls ≡ first ++ rest)
-    × IsReread held second rows × IsFetchingPart whole (held second.name) second.name second.limit first × GoesBy whole held (next rows) rest halt)
-    ⊎ ((line : List ℕ) × IsChanged held second line × IsFetchingPart whole (held second.name) second.name second.limit calls × (halt ≡ at_end (refuses line)))
+    × IsReread held second rows × IsRefetching whole (held second.name) second first × GoesBy whole held (next rows) rest halt)
+    ⊎ ((line : List ℕ) × IsChanged held second line × IsFetching whole (held second.name) second.name second.limit calls × (halt ≡ at_end (refuses line)))
 GoesBy whole held (decide {A} Good Bad next) calls halt =
     ((calls ≡ []) × (halt ≡ between))
     ⊎ ((a : A) × Good a × GoesBy whole held (next a) calls halt)
@@ -79,20 +107,20 @@ abbrev pub FetchesFile : {A : Type 0} → Bool → Option (List ℕ) → List �
 FetchesFile whole held name limit old new before after result =
     StepsBy (λ _. IsFetching whole held name limit) (λ stop. FetchesFor stop whole held name limit) old new before after result
 
--- the fetches of the file of stations, where one is named
-abbrev pub StationsCalls : Bool → (List ℕ → Option (List ℕ)) → Option (List ℕ) → List Fetch → Type 0
-StationsCalls whole held None calls = calls ≡ []
-StationsCalls whole held (Some stations) calls = IsFetching whole (held stations) stations text_limit calls
+-- the fetches of a file of stations or stalls, where one is named
+abbrev pub NamedCalls : Bool → (List ℕ → Option (List ℕ)) → Option (List ℕ) → List Fetch → Type 0
+NamedCalls whole held None calls = calls ≡ []
+NamedCalls whole held (Some name) calls = IsFetching whole (held name) name text_limit calls
 
--- the same where there is no placement for this reason
-abbrev pub StationsPart : Bool → (List ℕ → Option (List ℕ)) → Option (List ℕ) → Stop → List Fetch → Type 0
-StationsPart whole held None stop calls = calls ≡ []
-StationsPart whole held (Some stations) stop calls = FetchesFor stop whole (held stations) stations text_limit calls
+-- the same where it is not read for this reason
+abbrev pub NamedPart : Bool → (List ℕ → Option (List ℕ)) → Option (List ℕ) → Stop → List Fetch → Type 0
+NamedPart whole held None stop calls = calls ≡ []
+NamedPart whole held (Some name) stop calls = FetchesFor stop whole (held name) name text_limit calls
 
--- the steps to the placement of a job
-abbrev pub FetchesStations : {A : Type 0} → Bool → (List ℕ → Option (List ℕ)) → Option (List ℕ) → Option (List Fetch) → Option (List Fetch) → (List ℕ → ℕ) → (List ℕ → ℕ) → Result A Stop → Type 0
-FetchesStations whole held stations old new before after result =
-    StepsBy (λ _. StationsCalls whole held stations) (StationsPart whole held stations) old new before after result
+-- the steps to the placement or the stalls of a job
+abbrev pub FetchesNamed : {A : Type 0} → Bool → (List ℕ → Option (List ℕ)) → Option (List ℕ) → Option (List Fetch) → Option (List Fetch) → (List ℕ → ℕ) → (List ℕ → ℕ) → Result A Stop → Type 0
+FetchesNamed whole held name old new before after result =
+    StepsBy (λ _. NamedCalls whole held name) (NamedPart whole held name) old new before after result
 
 -- the fetches of the netlist, and then those of the stations
 pub record WrappedCalls (whole : Bool) (held : List ℕ → Option (List ℕ)) (net : List ℕ) (stations : Option (List ℕ)) (calls : List Fetch) : Type 0 where
@@ -100,7 +128,7 @@ pub record WrappedCalls (whole : Bool) (held : List ℕ → Option (List ℕ)) (
   pub rest : List Fetch
   pub are : calls ≡ first ++ rest
   pub of_net : IsFetching whole (held net) net net_limit first
-  pub of_stations : StationsCalls whole held stations rest
+  pub of_stations : NamedCalls whole held stations rest
 
 -- the system is had, and no placement, after these fetches
 pub record MissesStationsBy (whole : Bool) (held : List ℕ → Option (List ℕ)) (net : List ℕ) (stations root : Option (List ℕ)) (before after : List ℕ → ℕ) (stop : Stop) (calls : List Fetch) : Type 0 where
@@ -109,7 +137,7 @@ pub record MissesStationsBy (whole : Bool) (held : List ℕ → Option (List ℕ
   pub rest : List Fetch
   pub are : calls ≡ first ++ rest
   pub of_net : IsFetching whole (held net) net net_limit first
-  pub of_stations : StationsPart whole held stations stop rest
+  pub of_stations : NamedPart whole held stations stop rest
 
 -- why the netlist or the stations are not had, after these fetches
 abbrev pub MissesWrappedBy : Bool → (List ℕ → Option (List ℕ)) → List ℕ → Option (List ℕ) → Option (List ℕ) → (List ℕ → ℕ) → (List ℕ → ℕ) → Stop → List Fetch → Type 0
@@ -129,12 +157,14 @@ FetchesNothing (again second next) = ⊥
 FetchesNothing (decide {A} Good Bad next) = (a : A) → FetchesNothing (next a)
 FetchesNothing (end last) = Unit {0}
 
--- a job whose script halts so may end with this status; a write fails only where the output is whole
+-- a job whose script halts so may end with this status; a write fails where the output is whole, or while a file is read
+-- a second time
 abbrev pub IsStatusAt : Halt → ℕ → Type 0
 IsStatusAt (at_end (refuses line)) status = status ≡ 1
 IsStatusAt (at_end denies) status = status ≡ 6
 IsStatusAt (at_end (gives output)) status = (status ≡ 0) ⊎ (status ≡ 4)
 IsStatusAt (at_fetch file) status = status ≡ 3
+IsStatusAt at_write status = status ≡ 4
 IsStatusAt between status = status ≡ 5
 
 -- the fetches of a job that ends with this status: its script goes by them until it halts

@@ -35,6 +35,7 @@ use Rattle.lid_texts.specs.declared.rows.Rows.{Rows}
 use Rattle.lid_texts.specs.declared.rows.VecFault.{VecFault}
 use Rattle.lid_texts.specs.declared.rows.VecFault.TheVariants.{Changed}
 use Rattle.lid_texts.specs.Rows.{rows_reading}
+use Rattle.lid_texts.specs.Scans.{ended_rows}
 use Rattle.lid_texts_runs.specs.declared.trace.Trace.{Trace}
 use Rattle.lid_vcd.specs.declared.reader.VcdFault.{VcdFault}
 use Rattle.lid_vcd.specs.Reading.{wave_reading}
@@ -45,6 +46,7 @@ use Rattle.lid_gen.specs.Designs.{size_fault}
 use Rattle.lid_top_words.specs.declared.job.Job.{Job}
 use Rattle.lid_top_words.specs.declared.job.Job.TheVariants.{Check, Clock, Emit, Free, Gen, Place, Rate, Size, Slack, Strict, Unwave, Verify, Walk, Wave}
 use Rattle.lid_top_refusals.specs.Faults.{blif_line, rows_line, check_line, net_line, stations_line, cert_line, trace_line, stalls_line, schedule_line, vcd_line, gen_line, emit_line}
+use Rattle.lid_top_script.specs.Clocked.{AsksFor}
 use Rattle.lid_top_script.specs.Outputs.{Output, report, strict_output, placed, throughput, sized, slacks, verdict, clocked, walked, freed, waved, unwaved, emitted, design_of_seed, run_of_seed}
 
 -- what a reading makes of a value
@@ -53,13 +55,17 @@ pub data Reading (A : Type 0) : Type 0 where
   bad : List ℕ → Reading A  -- the line on `err`
 
 -- a second reading of the rows of a file
-pub record Rereading : Type 0 where
+pub record Rereading : Type 1 where
   pub name : List ℕ
   pub limit : ℕ
   pub width : ℕ
   pub read : List ℕ → Reading (List (List Bool))
+  -- how many rows have ended in some first bytes
+  pub ended : List ℕ → ℕ
   -- what the first reading gave
   pub rows : List (List Bool)
+  -- so many of these are asked for
+  pub Asks : ℕ → Type 0
 
 -- how a job ends, where all is fetched and memory is there
 pub data Ending : Type 0 where
@@ -282,9 +288,13 @@ unfoldable pub trace_read : Placement → Option ℕ → Reading (Unit {0})
 trace_read p None = good tt
 trace_read p (Some cycles) = cells_read (station_count p.relays * cycles)
 
--- the rows of a design, which were read, are to be read a second time
-abbrev pub reread_rows : Design → List ℕ → List (List Bool) → Rereading
-reread_rows d vec rows = record { name = vec; limit = rows_limit; width = length (root_inputs d); read = vec_reading d; rows = rows }
+-- how many rows for the inputs of a design have ended in some first bytes
+abbrev pub rows_ended : Design → List ℕ → ℕ
+rows_ended d bytes = length (ended_rows (root_inputs d) (length (root_outputs d)) bytes)
+
+-- the rows of a design, which were read, are to be read a second time, up to those that are asked for
+abbrev pub reread_rows : Design → List ℕ → (ℕ → Type 0) → List (List Bool) → Rereading
+reread_rows d vec Asks rows = record { name = vec; limit = rows_limit; width = length (root_inputs d); read = vec_reading d; ended = rows_ended d; rows = rows; Asks = Asks }
 
 abbrev pub stalls_good : Result (List Stall) StallFault → Reading (List Stall)
 stalls_good (Ok stalls) = good stalls
@@ -302,7 +312,7 @@ stalls_step (Some stalls) next = read_step stalls text_limit stalls_read (λ rea
 -- `clock` of a system with such a placement and such stalls whose rows were read: they are read a second time as it
 -- runs
 unfoldable pub rerun_script : Design → Links → Placement → List ℕ → Option (List Stall) → Option ℕ → List (List Bool) → Script
-rerun_script d l p vec stalls trace rows = again (reread_rows d vec rows) (λ reread. end (gives (clocked d l p reread stalls trace)))
+rerun_script d l p vec stalls trace rows = again (reread_rows d vec (AsksFor l p (length rows) stalls) rows) (λ reread. end (gives (clocked d l p reread stalls trace)))
 
 -- the trace is judged, and then it runs
 unfoldable pub traced_script : Design → Links → Placement → List ℕ → Option (List Stall) → Option ℕ → List (List Bool) → Script

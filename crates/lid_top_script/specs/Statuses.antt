@@ -114,9 +114,8 @@ pub record JobRun {S O : Type 0} (job : Job)
   -- where no count rose, the status is that of an ending of the script, or want of memory
   pub complete : ReadsAll (held shelf) (script_of job) (reads shelf) (reads shelf_after) → ¬ Rose (writes out) (writes out_after)
       → (status ≡ 5) ⊎ IsStatusOf (held shelf) (script_of job) status
-  -- where the shelf tells its fetches, a job that does not write early makes those of its script and no other; and no
-  -- count of reads rises but at 3
-  pub fetched : writes_early job ≡ false → FetchesJob whole (held shelf) (script_of job) (fetches shelf) (fetches shelf_after) (reads shelf) (reads shelf_after) status
+  -- where the shelf tells its fetches, a job makes those of its script and no other; and no count of reads rises but at 3
+  pub fetched : FetchesJob whole (held shelf) (script_of job) (fetches shelf) (fetches shelf_after) (reads shelf) (reads shelf_after) status
 
 -- what a run shows, by the job that its words ask for
 pub record Run {S O E : Type 0} (asked : Option Job)

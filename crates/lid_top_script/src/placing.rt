@@ -8,7 +8,7 @@ ghost use Rattle.lid_stations.specs.Placements.{links_of, Fits};
 ghost use Rattle.lid_system.specs.Systems.{IsWellFormed as IsSystem};
 ghost use Rattle.lid_top_script.specs.Scripts.{text_limit, stations_read, wires_read, cert_read};
 ghost use Rattle.lid_top_script.specs.Causes.{GotPlacement, MissesPlacement};
-ghost use Rattle.lid_top_script.specs.Fetches.{FetchesStations};
+ghost use Rattle.lid_top_script.specs.Fetches.{FetchesNamed};
 
 use crate::fault::{Stop, cert_stop, place_stop};
 use crate::reading::{FileText, read_file};
@@ -66,7 +66,7 @@ pub(crate) fn read_placement<'a, S: Shelf>(
     ensures ok { IfOk result (GotPlacement (S.held shelf.old) (links_of system.now) stations.now) }
     ensures fits { IfOk result (Fits system.now) }
     ensures err { IfErr result (MissesPlacement (S.held shelf.old) (links_of system.now) stations.now (S.faults shelf.old) (S.faults shelf.new)) }
-    ensures fetched { FetchesStations S.whole (S.held shelf.old) stations.now
+    ensures fetched { FetchesNamed S.whole (S.held shelf.old) stations.now
         (S.fetches shelf.old) (S.fetches shelf.new) (S.faults shelf.old) (S.faults shelf.new) result }
     ensures kept { S.held shelf.new ≡ S.held shelf.old }
     ensures grows { (q : List ℕ) → S.faults shelf.old q ≤ S.faults shelf.new q }

@@ -4,6 +4,7 @@ ghost use Rattle.std.specs.Prelude.{◌≡◌, ℕ, ◌≤◌, List, IfOk, IfErr
 ghost use Rattle.lid_stall_text.specs.declared.stalls.Stall.{Stall};
 ghost use Rattle.lid_top_script.specs.Scripts.{text_limit, stalls_read};
 ghost use Rattle.lid_top_script.specs.Causes.{GotStalls, MissesStalls};
+ghost use Rattle.lid_top_script.specs.Fetches.{FetchesNamed};
 ghost use Rattle.lid_stall_text.specs.Holds.{Ascend, listed};
 
 use crate::fault::{Stop, stalls_stop};
@@ -51,6 +52,8 @@ pub fn read_job_stalls<'a, S: Shelf>(
     ensures ok { IfOk result (GotStalls (S.held shelf.old) stalls.now) }
     ensures ascend { IfOk result (λ read. Ascend (listed read)) }
     ensures err { IfErr result (MissesStalls (S.held shelf.old) stalls.now (S.faults shelf.old) (S.faults shelf.new)) }
+    ensures fetched { FetchesNamed S.whole (S.held shelf.old) stalls.now
+        (S.fetches shelf.old) (S.fetches shelf.new) (S.faults shelf.old) (S.faults shelf.new) result }
     ensures kept { S.held shelf.new ≡ S.held shelf.old }
     ensures grows { (q : List ℕ) → S.faults shelf.old q ≤ S.faults shelf.new q }
 {

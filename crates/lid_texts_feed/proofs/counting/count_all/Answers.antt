@@ -1,7 +1,6 @@
-use Rattle.std.proofs.Common.{◌≡◌, ℕ, ◌++◌, arith, List, Option, refl, sym, ap, ◌∙◌, subst}
-use Rattle.lid_base_io.specs.Calls.{CameAs}
-use Rattle.lid_texts_feed.specs.Feeds.{IsRefusedText, IfRefused, IsFetchedFor}
-use Rattle.lid_texts_feed.specs.Fetching.{CameTo, Knows}
+use Rattle.std.proofs.Common.{◌≡◌, ℕ, ◌++◌, arith, List, Option, None, refl, sym, ap, ◌∙◌, subst}
+use Rattle.lid_texts_feed.specs.Feeds.{IsRefusedText, IfRefused}
+use Rattle.lid_texts_feed.specs.Fetching.{ScansBy, FailsBy, Knows}
 use Rattle.lid_texts_feed.proofs.Giving.{has_rows}
 use Rattle.lid_texts_feed.proofs.Calling.{unless_later, elsewhere, came_whole}
 use Rattle.lid_texts_feed.proofs.counting.count_all.Goals as goal
@@ -20,7 +19,7 @@ returns-in-Err-clause-refused g c = λ columns outs known knows.
 
 pub returns-in-Some-clause-came : goal.returns-in-Some-clause-came
 returns-in-Some-clause-came g c = λ columns outs known first knows so.
-    came_whole g.S.Shelf.whole (g.S.Shelf.held c.args.shelf.now c.args.name.now) c.args.name.now first (g.S.Shelf.fetches c.loop-text.shelf) c.loop-text.text.fetched c.in-Some.count c.loop-text.text.count c.in-Some.is
+    came_whole _ g.S.Shelf.whole (g.S.Shelf.held c.args.shelf.now c.args.name.now) c.args.name.now first (g.S.Shelf.fetches c.loop-text.shelf) c.loop-text.text.fetched c.in-Some.count c.loop-text.text.count c.in-Some.is
     (c.loop-text.invariant.came columns outs known first knows so)
 
 pub returns-in-Some-clause-still : goal.returns-in-Some-clause-still
@@ -33,10 +32,12 @@ returns-in-Err-clause-begun g c = λ columns outs known first knows so.
     let name = c.args.name.now in
     let now = l.invariant.knows columns outs known knows in
     let same : g.S.Shelf.held l.shelf name ≡ g.S.Shelf.held c.args.shelf.now name = ap (λ (h : List ℕ → Option (List ℕ)). h name) l.invariant.kept in
-    elsewhere (λ h n. CameAs first (g.S.Shelf.fetches c.take_rows.new.shelf) (IsFetchedFor whole h n c.in-Err.fault)) same refl
-    (c.in-Err.ensures.begun columns outs now.0 first c.in_default.is
+    let fails = elsewhere (λ h n. FailsBy whole h columns outs None n first (g.S.Shelf.fetches c.take_rows.new.shelf) c.in-Err.fault) same refl
+    (c.in-Err.ensures.begun columns outs now.0 None first c.in_default.is
     (subst (λ (h : Option (List ℕ)). Knows h columns outs l.text l.text.count now.0) (sym same) now.1)
-    (elsewhere (λ h n. CameTo whole h n l.text.fetched first (g.S.Shelf.fetches l.shelf) l.text.count) (sym same) refl (l.invariant.came columns outs known first knows so)))
+    tt
+    (elsewhere (λ h n. ScansBy whole h columns outs None n first (g.S.Shelf.fetches l.shelf) l.text) (sym same) refl (l.invariant.came columns outs known first knows so))) in
+    (fails.0, fails.1, fails.2.0)
 
 pub returns-in-Err-clause-wanting : goal.returns-in-Err-clause-wanting
 returns-in-Err-clause-wanting g c = unless_later (λ still q. still q ∙ c.loop-text.invariant.still q) c.in-Err.fault c.in-Err.ensures.wanting
@@ -56,10 +57,11 @@ loop-text-preserved g c =
           (now.0 ++ more.rows, subst (λ (h : Option (List ℕ)). Knows h columns outs new new.count (now.0 ++ more.rows)) same more.knows);
       came = λ columns outs known first knows so.
           let now = l.invariant.knows columns outs known knows in
-          elsewhere (λ h n. CameTo whole h n new.fetched first (g.S.Shelf.fetches c.take_rows.new.shelf) new.count) same refl
-          (took.came columns outs now.0 first c.in_default.is
+          elsewhere (λ h n. ScansBy whole h columns outs None n first (g.S.Shelf.fetches c.take_rows.new.shelf) new) same refl
+          (took.came columns outs now.0 None first c.in_default.is
           (subst (λ (h : Option (List ℕ)). Knows h columns outs l.text l.text.count now.0) (sym same) now.1)
-          (elsewhere (λ h n. CameTo whole h n l.text.fetched first (g.S.Shelf.fetches l.shelf) l.text.count) (sym same) refl (l.invariant.came columns outs known first knows so)));
+          tt
+          (elsewhere (λ h n. ScansBy whole h columns outs None n first (g.S.Shelf.fetches l.shelf) l.text) (sym same) refl (l.invariant.came columns outs known first knows so)));
       still = λ q. took.still q ∙ l.invariant.still q;
       kept = took.kept ∙ l.invariant.kept;
       grows = λ q. let before = l.invariant.grows q in let after = took.grows q in omega (arith, before, after);

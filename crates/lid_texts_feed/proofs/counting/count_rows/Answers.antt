@@ -21,7 +21,7 @@ returns-clause-came g c =
     let name = c.args.name.now in
     let held = g.S.Shelf.held c.args.shelf.now name in
     let old = g.S.Shelf.fetches c.args.shelf.now in
-    c.count_all.ensures.came c.args.columns.now c.args.outs [] old (c.in-Ok.ensures.knows held) (came_begins whole held name old c.in-Ok.text.fetched c.in-Ok.text.count c.in-Ok.ensures.fresh c.in-Ok.ensures.goes)
+    c.count_all.ensures.came c.args.columns.now c.args.outs [] old (c.in-Ok.ensures.knows held) (came_begins _ whole held name old c.in-Ok.text.fetched c.in-Ok.text.count c.in-Ok.ensures.fresh c.in-Ok.ensures.goes tt)
 
 pub returns-clause-begun : goal.returns-clause-begun
 returns-clause-begun g c =
@@ -29,4 +29,4 @@ returns-clause-begun g c =
     let name = c.args.name.now in
     let held = g.S.Shelf.held c.args.shelf.now name in
     let old = g.S.Shelf.fetches c.args.shelf.now in
-    c.count_all.ensures.begun c.args.columns.now c.args.outs [] old (c.in-Ok.ensures.knows held) (came_begins whole held name old c.in-Ok.text.fetched c.in-Ok.text.count c.in-Ok.ensures.fresh c.in-Ok.ensures.goes)
+    c.count_all.ensures.begun c.args.columns.now c.args.outs [] old (c.in-Ok.ensures.knows held) (came_begins _ whole held name old c.in-Ok.text.fetched c.in-Ok.text.count c.in-Ok.ensures.fresh c.in-Ok.ensures.goes tt)

@@ -1,5 +1,4 @@
 use Rattle.lid_top.proofs.Clocked.{job_left}
-use Rattle.lid_top.proofs.Fetched.{not_clock}
 use Rattle.lid_top.proofs.job.run_job.Goals as goal
 
 pub returns-in-Clock-clause-done : goal.returns-in-Clock-clause-done
@@ -13,6 +12,3 @@ returns-in-Clock-clause-left g c = job_left c.in-Clock.is c.run_early.ensures.ra
 
 pub returns-in-Clock-clause-unwritten : goal.returns-in-Clock-clause-unwritten
 returns-in-Clock-clause-unwritten g c = let ran = c.run_early.ensures.ran in ran.unwritten
-
-pub returns-in-Clock-clause-fetched : goal.returns-in-Clock-clause-fetched
-returns-in-Clock-clause-fetched g c = λ not. absurd (not_clock c.in-Clock.is not)

@@ -1,4 +1,6 @@
-use Rattle.std.proofs.Common.{◌≡◌, ◌≤◌, ◌-◌, ◌^◌, ℕ, Bool, List}
+use Rattle.std.proofs.Common.{◌≡◌, ◌≤◌, ◌-◌, ◌^◌, ℕ, Bool, List, Option}
+use Rattle.lid_base.specs.declared.outside.Fetch.{Fetch}
+use Rattle.lid_top_clock.specs.Refetching.{FedBy}
 use Rattle.lid_top_clock.specs.Runnings.{ClockRun}
 use Rattle.lid_top_clock.specs.Stepping.{IsRunOf, IsFed}
 use Rattle.lid_top_clock.proofs.Tellings.{IsTelling}
@@ -9,6 +11,9 @@ abbrev pub invariant-loop-run : goal.invariant-loop-run
 invariant-loop-run g l = record {
   telling : (r : ClockRun) (given : List (List Bool)) → IsRunOf r l.fn.task.system.now l.fn.task.columns.now → IsFed r (g.S.Shelf.held l.fn.shelf l.fn.feed.name) l.fn.run l.fn.feed given
       → IsTelling g.O.Sink.written g.O.Sink.pieces r (g.S.Shelf.held l.shelf l.feed.name) l.run l.feed l.telling l.fn.out l.out;
+  came : (r : ClockRun) (given : List (List Bool)) (first : Option (List Fetch)) → IsRunOf r l.fn.task.system.now l.fn.task.columns.now → IsFed r (g.S.Shelf.held l.fn.shelf l.fn.feed.name) l.fn.run l.fn.feed given
+      → FedBy g.S.Shelf.whole r l.fn.run.given first (g.S.Shelf.fetches l.fn.shelf) l.fn.feed
+      → FedBy g.S.Shelf.whole r l.run.given first (g.S.Shelf.fetches l.shelf) l.feed × ((q : List ℕ) → g.S.Shelf.faults l.shelf q ≡ g.S.Shelf.faults l.fn.shelf q);
   name : l.feed.name ≡ l.fn.feed.name;
   kept : g.S.Shelf.held l.shelf ≡ g.S.Shelf.held l.fn.shelf;
   grows : (q : List ℕ) → g.S.Shelf.faults l.fn.shelf q ≤ g.S.Shelf.faults l.shelf q;

@@ -1,8 +1,8 @@
 use Rattle.std.proofs.Common.{ℕ, List, ◌++◌, reverse, sym, ap, subst}
-use Rattle.lid_base_io.specs.Calls.{CameAs}
-use Rattle.lid_texts_feed.specs.Feeds.{IsRefusedText, IfRefused, IsFetchedFor}
-use Rattle.lid_texts_feed.specs.Fetching.{CameTo, Knows}
+use Rattle.lid_texts_feed.specs.Feeds.{IsRefusedText, IfRefused}
+use Rattle.lid_texts_feed.specs.Fetching.{ScansBy, FailsBy, Knows}
 use Rattle.lid_texts_feed.proofs.Calling.{elsewhere}
+use Rattle.lid_texts_feed.proofs.Giving.{below_known}
 use Rattle.lid_texts_feed.proofs.feed.RowFeed.fill.Goals as goal
 
 pub returns-in-Err-clause-refused : goal.returns-in-Err-clause-refused
@@ -14,24 +14,28 @@ returns-in-Err-clause-refused g c = λ columns outs given none has.
     (subst (λ (name : List ℕ). Knows (g.S.Shelf.held c.args.shelf.now name) columns outs text text.count known) (sym c.as_str-name.ensures) has.knows))
 
 pub returns-in-Err-clause-begun : goal.returns-in-Err-clause-begun
-returns-in-Err-clause-begun g c = λ columns outs given first none has so.
+returns-in-Err-clause-begun g c = λ columns outs given asked first none empty has below so.
+    let whole = g.S.Shelf.whole in
     let known = given ++ reverse c.args.self.now.rows.items in
     let text = c.args.self.now.text in
     let held = g.S.Shelf.held c.args.shelf.now in
     let named = c.as_str-name.ensures in
-    elsewhere (λ h n. CameAs first (g.S.Shelf.fetches c.take_rows.new.shelf) (IsFetchedFor g.S.Shelf.whole h n c.in-Err.fault)) (ap held named) named
-    (c.in-Err.ensures.begun columns outs known first none
+    elsewhere (λ h n. FailsBy whole h columns outs asked n first (g.S.Shelf.fetches c.take_rows.new.shelf) c.in-Err.fault) (ap held named) named
+    (c.in-Err.ensures.begun columns outs known asked first none
     (subst (λ (name : List ℕ). Knows (held name) columns outs text text.count known) (sym named) has.knows)
-    (elsewhere (λ h n. CameTo g.S.Shelf.whole h n text.fetched first (g.S.Shelf.fetches c.args.shelf.now) text.count) (ap held (sym named)) (sym named) so))
+    (below_known asked given c.args.self.now.rows.items empty below)
+    (elsewhere (λ h n. ScansBy whole h columns outs asked n first (g.S.Shelf.fetches c.args.shelf.now) text) (ap held (sym named)) (sym named) so))
 
 pub returns-clause-came : goal.returns-clause-came
-returns-clause-came g c = λ columns outs given first none has so.
+returns-clause-came g c = λ columns outs given asked first none empty has below so.
+    let whole = g.S.Shelf.whole in
     let known = given ++ reverse c.args.self.now.rows.items in
     let text = c.args.self.now.text in
     let new = c.take_rows.new.self in
     let held = g.S.Shelf.held c.args.shelf.now in
     let named = c.as_str-name.ensures in
-    elsewhere (λ h n. CameTo g.S.Shelf.whole h n new.fetched first (g.S.Shelf.fetches c.take_rows.new.shelf) new.count) (ap held named) named
-    (c.in_default.ensures.came columns outs known first none
+    elsewhere (λ h n. ScansBy whole h columns outs asked n first (g.S.Shelf.fetches c.take_rows.new.shelf) new) (ap held named) named
+    (c.in_default.ensures.came columns outs known asked first none
     (subst (λ (name : List ℕ). Knows (held name) columns outs text text.count known) (sym named) has.knows)
-    (elsewhere (λ h n. CameTo g.S.Shelf.whole h n text.fetched first (g.S.Shelf.fetches c.args.shelf.now) text.count) (ap held (sym named)) (sym named) so))
+    (below_known asked given c.args.self.now.rows.items empty below)
+    (elsewhere (λ h n. ScansBy whole h columns outs asked n first (g.S.Shelf.fetches c.args.shelf.now) text) (ap held (sym named)) (sym named) so))

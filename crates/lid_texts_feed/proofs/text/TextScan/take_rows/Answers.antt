@@ -1,7 +1,6 @@
-use Rattle.std.proofs.Common.{ℕ, ◌++◌, ◌∙◌, Option, None, sym, subst}
-use Rattle.lid_base_io.specs.Calls.{CameAs}
-use Rattle.lid_texts_feed.specs.Feeds.{IsRefusedText, IfRefused, IsFetchedFor, UnlessRead}
-use Rattle.lid_texts_feed.specs.Fetching.{Knows}
+use Rattle.std.proofs.Common.{ℕ, Bool, List, ◌++◌, ◌∙◌, length, Option, None, sym, subst}
+use Rattle.lid_texts_feed.specs.Feeds.{IsRefusedText, IfRefused, UnlessRead}
+use Rattle.lid_texts_feed.specs.Fetching.{FailsBy, IsBelowAsked, Knows}
 use Rattle.lid_texts_feed.proofs.Calling.{unless_read, unread_still, for_piece, for_texts, came_all, came_more, came_last, came_at}
 use Rattle.lid_texts_feed.proofs.Taking.{piece_fine, took, knows_more, knows_all}
 use Rattle.lid_texts_feed.proofs.text.TextScan.take_rows.Goals as goal
@@ -31,53 +30,58 @@ returns-clause-refused g c = λ columns outs known none knows.
     c.finish.ensures.refused columns outs end.bytes held end.fetched (end.ends c.if-more.false)
 
 pub returns-in-Err-clause-begun : goal.returns-in-Err-clause-begun
-returns-in-Err-clause-begun g c = λ columns outs known first none knows so.
+returns-in-Err-clause-begun g c = λ columns outs known asked first none knows below so.
     let whole = g.S.Shelf.whole in
     let name = c.args.name.now in
     let held = g.S.Shelf.held c.args.shelf.now name in
     let now = g.S.Shelf.fetches c.args.shelf.now in
     let new = g.S.Shelf.fetches c.take_piece.new.shelf in
     let own : Knows held columns outs c.args.self.now None known = subst (λ (o : Option ℕ). Knows held columns outs c.args.self.now o known) none knows in
-    let going = came_at whole held name first now c.args.self.now.fetched c.args.self.now.count own.0 none own.1.long so in
-    subst (λ e. CameAs first new (IsFetchedFor whole held name e)) (sym c.unfetched.ensures)
-    (for_piece whole held name first new c.in-Err.fault (c.in-Err.ensures.begun columns outs own.0 first own.1 going))
+    let less = subst (λ (rows : List (List Bool)). IsBelowAsked asked (length rows)) own.2 below in
+    let going = came_at _ whole held name first now c.args.self.now.fetched c.args.self.now.count own.0 none own.1.long so in
+    subst (FailsBy whole held columns outs asked name first new) (sym c.unfetched.ensures)
+    (for_piece _ whole held name first new c.in-Err.fault (c.in-Err.ensures.begun columns outs own.0 asked first own.1 less going))
 
 pub returns-in-Err-clause-wanting : goal.returns-in-Err-clause-wanting
 returns-in-Err-clause-wanting g c = subst (UnlessRead _) (sym c.unfetched.ensures) (unread_still c.in-Err.fault c.in-Err.ensures.wanting)
 
 pub returns-then-more-clause-came : goal.returns-then-more-clause-came
-returns-then-more-clause-came g c = λ columns outs known first none knows so.
+returns-then-more-clause-came g c = λ columns outs known asked first none knows below so.
     let whole = g.S.Shelf.whole in
     let name = c.args.name.now in
     let held = g.S.Shelf.held c.args.shelf.now name in
     let now = g.S.Shelf.fetches c.args.shelf.now in
     let new = g.S.Shelf.fetches c.take_piece.new.shelf in
     let own : Knows held columns outs c.args.self.now None known = subst (λ (o : Option ℕ). Knows held columns outs c.args.self.now o known) none knows in
-    let going = came_at whole held name first now c.args.self.now.fetched c.args.self.now.count own.0 none own.1.long so in
-    came_more whole held name first new c.take_piece.new.self.fetched c.in-Ok.more c.take_piece.new.self.count c.if-more.true (c.in-Ok.ensures.count ∙ none) (c.in-Ok.ensures.came columns outs own.0 first own.1 going)
+    let less = subst (λ (rows : List (List Bool)). IsBelowAsked asked (length rows)) own.2 below in
+    let going = came_at _ whole held name first now c.args.self.now.fetched c.args.self.now.count own.0 none own.1.long so in
+    came_more _ whole held name first new c.take_piece.new.self.fetched c.in-Ok.more c.take_piece.new.self.count c.if-more.true (c.in-Ok.ensures.count ∙ none) (c.in-Ok.ensures.came columns outs own.0 asked first own.1 less going)
 
 pub returns-clause-came : goal.returns-clause-came
-returns-clause-came g c = λ columns outs known first none knows so.
+returns-clause-came g c = λ columns outs known asked first none knows below so.
     let whole = g.S.Shelf.whole in
     let name = c.args.name.now in
     let held = g.S.Shelf.held c.args.shelf.now name in
     let now = g.S.Shelf.fetches c.args.shelf.now in
     let new = g.S.Shelf.fetches c.take_piece.new.shelf in
     let own : Knows held columns outs c.args.self.now None known = subst (λ (o : Option ℕ). Knows held columns outs c.args.self.now o known) none knows in
-    let going = came_at whole held name first now c.args.self.now.fetched c.args.self.now.count own.0 none own.1.long so in
-    came_all whole held name first new c.finish.new.self.fetched c.finish.result c.finish.new.self.count c.finish.ensures.ended
-    (came_last whole held name first new c.take_piece.new.self.fetched c.in-Ok.more c.if-more.false (c.in-Ok.ensures.came columns outs own.0 first own.1 going))
+    let less = subst (λ (rows : List (List Bool)). IsBelowAsked asked (length rows)) own.2 below in
+    let going = came_at _ whole held name first now c.args.self.now.fetched c.args.self.now.count own.0 none own.1.long so in
+    came_all _ whole held name first new c.take_piece.new.self.fetched c.finish.new.self.fetched c.finish.result c.finish.new.self.count c.finish.ensures.ended
+    (came_last _ whole held name first new c.take_piece.new.self.fetched c.in-Ok.more c.if-more.false (c.in-Ok.ensures.came columns outs own.0 asked first own.1 less going))
 
 pub returns-clause-begun : goal.returns-clause-begun
-returns-clause-begun g c = λ columns outs known first none knows so.
+returns-clause-begun g c = λ columns outs known asked first none knows below so.
     let whole = g.S.Shelf.whole in
     let name = c.args.name.now in
     let held = g.S.Shelf.held c.args.shelf.now name in
     let now = g.S.Shelf.fetches c.args.shelf.now in
     let new = g.S.Shelf.fetches c.take_piece.new.shelf in
     let own : Knows held columns outs c.args.self.now None known = subst (λ (o : Option ℕ). Knows held columns outs c.args.self.now o known) none knows in
-    let going = came_at whole held name first now c.args.self.now.fetched c.args.self.now.count own.0 none own.1.long so in
-    for_texts whole held name first new c.finish.result (came_last whole held name first new c.take_piece.new.self.fetched c.in-Ok.more c.if-more.false (c.in-Ok.ensures.came columns outs own.0 first own.1 going))
+    let less = subst (λ (rows : List (List Bool)). IsBelowAsked asked (length rows)) own.2 below in
+    let going = came_at _ whole held name first now c.args.self.now.fetched c.args.self.now.count own.0 none own.1.long so in
+    for_texts _ whole held name first new c.take_piece.new.self.fetched c.finish.result
+    (came_last _ whole held name first new c.take_piece.new.self.fetched c.in-Ok.more c.if-more.false (c.in-Ok.ensures.came columns outs own.0 asked first own.1 less going))
 
 pub returns-clause-wanting : goal.returns-clause-wanting
 returns-clause-wanting g c = unless_read c.finish.result c.in-Ok.ensures.still

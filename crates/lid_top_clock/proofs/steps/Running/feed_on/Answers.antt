@@ -1,5 +1,7 @@
-use Rattle.std.proofs.Common.{◌<◌, ℕ, length, Some, refl, sym, ◌∙◌, ap, subst}
+use Rattle.std.proofs.Common.{◌<◌, ◌+◌, ℕ, length, Some, refl, sym, ◌∙◌, ap, subst}
 use Rattle.lid_shell_laws.specs.Setups.{IsInputRow}
+use Rattle.lid_top_clock.specs.Refetching.{FedBy}
+use Rattle.lid_top_clock.proofs.Feedings.{fed_not, fed_on_ok}
 use Rattle.lid_top_clock.proofs.Living.{wide_row}
 use Rattle.lid_top_clock.proofs.Goings.{the_life, below_all, fed_on, fed_already}
 use Rattle.lid_top_clock.proofs.steps.Running.feed_on.Goals as goal
@@ -37,3 +39,17 @@ returns-clause-ok g c = λ r given fed.
     (c.in-Ok.ensures.ok r given fed.told fed.feeds)
     (λ l k h ran is. c.give.ensures l k h ran (is ∙ ap Some (sym c.as_slice.ensures)))
     refl refl refl refl refl refl
+
+pub returns-then-not-needs-clause-fetched : goal.returns-then-not-needs-clause-fetched
+returns-then-not-needs-clause-fetched g c = λ r given first fed so. fed_on_ok so (λ q. refl)
+
+pub returns-in-Err-clause-fetched : goal.returns-in-Err-clause-fetched
+returns-in-Err-clause-fetched g c = λ r given first fed so.
+    fed_not (c.in-Err.ensures.fetched r given first fed.told fed.feeds (below_all r c.args.self.now given fed.running (λ l k h ran. (c.needs.ensures l k h ran).0 c.if-not-needs.false))
+    (subst (λ (n : ℕ). FedBy g.S.Shelf.whole r n first (g.S.Shelf.fetches c.args.shelf.now) c.args.feed.now) fed.running.count so))
+
+pub returns-clause-fetched : goal.returns-clause-fetched
+returns-clause-fetched g c = λ r given first fed so.
+    let went = c.in-Ok.ensures.fetched r given first fed.told fed.feeds (below_all r c.args.self.now given fed.running (λ l k h ran. (c.needs.ensures l k h ran).0 c.if-not-needs.false))
+    (subst (λ (n : ℕ). FedBy g.S.Shelf.whole r n first (g.S.Shelf.fetches c.args.shelf.now) c.args.feed.now) fed.running.count so) in
+    fed_on_ok (subst (λ (n : ℕ). FedBy g.S.Shelf.whole r (n + 1) first (g.S.Shelf.fetches c.next_row.new.shelf) c.next_row.new.feed) (sym fed.running.count) went.done) went.still
