@@ -1,5 +1,5 @@
 -- A text that is pushed line by line.
-use Rattle.std.proofs.Common.{◌≡◌, ℕ, List, [], ◌++◌, length, Option, Some, None, refl, sym, ◌∙◌, ap, subst, append_assoc, append-nil}
+use Rattle.std.proofs.Common.{◌≡◌, ℕ, List, [], ◌++◌, Option, Some, None, refl, sym, ◌∙◌, ap, subst, append_assoc, append-nil}
 use Rattle.lid_base.specs.Outside.{Appended, AppendedPrefix, Came, CamePrefix}
 use Rattle.lid_base.proofs.Writes.{both_written, first_and_part, part_of_first}
 use Rattle.lid_base_io.specs.Calls.{pieces_of, full_pieces}

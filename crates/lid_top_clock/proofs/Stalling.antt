@@ -1,11 +1,9 @@
 -- Runs for which stalls may be given are runs that stalls hold: by none, where none are given.
-use Rattle.std.proofs.Common.{◌≡◌, ℕ, zero, suc, ◌+◌, ◌==◌, Bool, true, false, ◌<◌, ◌^◌, cond, List, [], ◌∷◌, Option, None, Some, refl, sym, ◌∙◌, ap, arith}
-use Rattle.lid_graph_laws.specs.Free.{held_below}
-use Rattle.lid_clock.specs.Lives.{Life, IsLife, IsBelow, HoldsNobody, sink}
+use Rattle.std.proofs.Common.{◌≡◌, ℕ, Bool, true, false, List, [], ◌∷◌, Option, None, Some, refl, sym, ◌∙◌, ap}
+use Rattle.lid_clock.specs.Lives.{Life, sink}
 use Rattle.lid_stall_text.specs.declared.stalls.Stall.{Stall}
-use Rattle.lid_stall_text.specs.Holds.{listed, hold_of, stalled_by, stalled_of, stalled_line, stall_hold}
-use Rattle.lid_stall.specs.Runs.{IsHeldBy, stalled_after}
-use Rattle.lid_stall.proofs.Delays.{stalled_is, few_cycles}
+use Rattle.lid_stall_text.specs.Holds.{listed, hold_of, stalled_by, stalled_of, stalled_line}
+use Rattle.lid_stall.specs.Runs.{IsHeldBy}
 use Rattle.lid_clock_flat.proofs.Unheld.{unheld, none_stalled}
 use Rattle.lid_base_lines.specs.Texts.{line_text}
 use Rattle.std.specs.Option.{is_some}

@@ -123,7 +123,7 @@ loop-run-preserved g c =
       came = λ r given first of fed so.
           let t = c.loop-run.invariant.telling r given of fed in
           let before = c.loop-run.invariant.came r given first of fed so in
-          let went = c.in_default-go.ensures.fetched r t.given first t.fed (goes_on r _ _ _ _ _ _ t _ c.below.ensures c.loop-run-test.true) before.0 in
+          let went = c.in_default-go.ensures.fetched r t.given first t.fed (goes_on g.O.Sink.written g.O.Sink.pieces r _ _ _ _ _ _ t _ c.below.ensures c.loop-run-test.true) before.0 in
           (went.done, λ q. went.still q ∙ before.1 q);
       name = c.in_default-go.ensures.name ∙ c.loop-run.invariant.name;
       kept = c.in_default-go.ensures.kept ∙ c.loop-run.invariant.kept;
@@ -190,7 +190,7 @@ pub returns-in-Err-go-clause-fetched : goal.returns-in-Err-go-clause-fetched
 returns-in-Err-go-clause-fetched g c = λ r given first of fed so.
     let t = c.loop-run.invariant.telling r given of fed in
     let before = c.loop-run.invariant.came r given first of fed so in
-    let went = c.in-Err-go.ensures.fetched r t.given first t.fed (goes_on r _ _ _ _ _ _ t _ c.below.ensures c.loop-run-test.true) before.0 in
+    let went = c.in-Err-go.ensures.fetched r t.given first t.fed (goes_on g.O.Sink.written g.O.Sink.pieces r _ _ _ _ _ _ t _ c.below.ensures c.loop-run-test.true) before.0 in
     run_stops c.in-Err-go.fault
     (subst (λ (name : List ℕ). CameAs first (g.S.Shelf.fetches c.go.new.shelf) (StopsBy g.S.Shelf.whole r name c.in-Err-go.fault)) c.loop-run.invariant.name went.begun)
     (still_for_later c.in-Err-go.fault (g.S.Shelf.faults c.args.shelf.now) (g.S.Shelf.faults c.loop-run.shelf) (g.S.Shelf.faults c.go.new.shelf) before.1 went.still_for)
@@ -199,7 +199,7 @@ pub returns-in-Err-tell_last-clause-fetched : goal.returns-in-Err-tell_last-clau
 returns-in-Err-tell_last-clause-fetched g c = λ r given first of fed so.
     let t = c.loop-run.invariant.telling r given of fed in
     let before = c.loop-run.invariant.came r given first of fed so in
-    let goes = goes_on r _ _ _ _ _ _ t _ c.below.ensures c.loop-run-test.true in
+    let goes = goes_on g.O.Sink.written g.O.Sink.pieces r _ _ _ _ _ _ t _ c.below.ensures c.loop-run-test.true in
     let gone = c.in_default-go.ensures.ok r t.given t.fed goes in
     let went = c.in_default-go.ensures.fetched r t.given first t.fed goes before.0 in
     let name = c.args.feed.now.name in
@@ -239,7 +239,7 @@ returns-clause-fetched g c = λ r given first of fed so.
       given = t.fed.running.rows;
       asks = λ l b.
           asks_for r t.given l c.loop-run.run.made b
-          (first_end r t.fed.running.rules.ascend t.given l b c.loop-run.run.made (t.fed.running.lives l b).busy (is_over r _ _ _ _ _ _ t _ c.below.ensures c.loop-run-test.false l b))
+          (first_end g.O.Sink.written g.O.Sink.pieces r t.fed.running.rules.ascend t.given l b c.loop-run.run.made (t.fed.running.lives l b).busy (is_over g.O.Sink.written g.O.Sink.pieces r _ _ _ _ _ _ t _ c.below.ensures c.loop-run-test.false l b))
           (t.fed.asked l b);
       came =
           subst (λ (n : List ℕ). CameAs first now (AreFetchesFor whole r.held columns outs (length t.given) n)) c.loop-run.invariant.name

@@ -1,6 +1,5 @@
 -- The bits of the row of each cycle are counted.
-use Rattle.std.proofs.Common.{◌≡◌, ◌≤◌, ℕ, suc, ◌+◌, length, sym, ◌∙◌, ap, subst, add-one, arith}
-use Rattle.lid_stations.specs.Placed.{Placing}
+use Rattle.std.proofs.Common.{◌≡◌, ◌≤◌, ℕ, suc, ◌+◌, length, sym, ◌∙◌, subst, add-one, arith}
 use Rattle.lid_system.specs.Streams.{output_row}
 use Rattle.lid_clock.proofs.FreeLives.{few_cycles}
 use Rattle.lid_clock.specs.Clocks.{rows_after}
@@ -10,8 +9,7 @@ use Rattle.lid_top_gen.proofs.Ones.{ones_none, ones_few, ones_on, ones_still}
 use Rattle.lid_top_gen.proofs.counting.count_run.Goals as goal
 
 pub loop-cycles-init : goal.loop-cycles-init
-loop-cycles-init c = λ life free of stations.
-    (c.in_ok-run.ensures life free (of ∙ sym (ap (λ (v : Placing). v.system) c.placed.view_is)) (stations ∙ sym (ap (λ (v : Placing). v.placement) c.placed.view_is)), ones_none life)
+loop-cycles-init c = λ life free of stations. (c.in_ok-run.ensures life free of stations, ones_none life)
 
 pub overflow_add-cycles : goal.overflow_add-cycles
 overflow_add-cycles c =
