@@ -79,7 +79,13 @@ impl MemShelf {
 
     /// A shelf of the files, on which the calls with the listed numbers fail. It takes no memory.
     pub fn new(files: Vec<File>, failing: Vec<u64>) -> MemShelf
-        ensures { let start : ShelfState = record { files = files.items; failing = failing.items; calls = 0; held_faults = 0; missing_faults = 0 } in result ≡ start }
+        ensures { let start : ShelfState = record {
+          files = files.items;
+          failing = failing.items;
+          calls = 0;
+          held_faults = 0;
+          missing_faults = 0;
+        } in result ≡ start }
     {
         MemShelf {
             files,
@@ -172,7 +178,13 @@ impl MemSink {
     /// # Errors
     /// There was no memory for the room.
     pub fn new(alloc: Global, room: u64, failing: Vec<u64>) -> Result<MemSink, AllocError>
-        ensures { IfOk result (λ sink. let start : SinkState = record { bytes = []; room = room; failing = failing.items; calls = 0; faults = 0 } in sink ≡ start) }
+        ensures { IfOk result (λ sink. let start : SinkState = record {
+          bytes = [];
+          room = room;
+          failing = failing.items;
+          calls = 0;
+          faults = 0;
+        } in sink ≡ start) }
     {
         let room = room as usize;
         let bytes = Vec::with_capacity(alloc, room)?;

@@ -1,6 +1,7 @@
 //! The real files, and the real outputs.
 
-ghost use Rattle.std.specs.Prelude.{◌≡◌, ℕ, ◌≤◌, length, false, None, IfOk};
+ghost use Rattle.std.specs.Prelude.{◌≡◌, ℕ, ◌≤◌, ◌+◌, ◌-◌, ◌^◌, min, length, false, None, IfOk};
+ghost use Rattle.std.specs.Io.KnownBytes.{ReadConsumes};
 
 use crate::outside::{Shelf, ShelfFailed, Sink, SinkFailed};
 use std::io::{Read, Seek, SeekFrom, Write};
@@ -18,9 +19,12 @@ struct LastFile<F: Read + Seek + Drop> {
 
 impl<F: Read + Seek + Drop> LastFile<F> {
     /// Reads bytes from the place `at`. It seeks only where that is another place, which fails on
-    /// what has no places, as a pipe.
+    /// what has no places, as a pipe. Where it does not seek, it gives the next bytes of the reader,
+    /// where these are told, and none only at their end.
     fn read_at(&mut self, at: u64, into: &mut [u8]) -> io::Result<usize>
-        ensures { IfOk result (λ n. n ≤ length into.new) }
+        ensures within { IfOk result (λ n. n ≤ length into.new) }
+        ensures given { at ≡ self.old.place → ReadConsumes (F.remaining self.old.file) (F.remaining self.new.file) result into.new }
+        ensures place { at ≡ self.old.place → IfOk result (λ n. self.new.place ≡ min (at + n) (2 ^ 64 - 1)) }
     {
         if at != self.place {
             self.file.seek(SeekFrom::Start(at))?;

@@ -82,7 +82,15 @@ impl Context {
     }
 
     fn with_cover(self, inputs: usize) -> Context
-        ensures { result ≡ record { inside = self.inside; covered = true; inputs = inputs; zeros = false; ones = false; rows = self.rows; models = self.models } }
+        ensures { result ≡ record {
+          inside = self.inside;
+          covered = true;
+          inputs = inputs;
+          zeros = false;
+          ones = false;
+          rows = self.rows;
+          models = self.models;
+        } }
     {
         Context {
             inside: self.inside,

@@ -9,11 +9,8 @@ ghost use Rattle.lid_cert.specs.Owners.{Owns, AreOwned};
 use crate::cert::{Cert, Part};
 use crate::owners::{are_all_owned, are_edges_owned, owners_of};
 use crate::places::{ascends, has_node};
-use crate::rules::{
-    are_lists, has_ratio, is_closed_walk, is_edge_met, is_lowest, is_node_met, is_start_met,
-    walk_start,
-};
-use lid_graph::Graph;
+use crate::rules::{are_lists, has_ratio, is_edge_met, is_lowest, is_node_met, is_start_met};
+use lid_graph::{Graph, is_closed_walk, walk_start};
 use std::alloc::Global;
 
 /// Whether all transitions of a part are transitions of the graph.

@@ -2,7 +2,7 @@
 
 ghost use Rattle.std.specs.Prelude.{◌≡◌, ◌*◌, ◌<◌, ◌≤◌, ◌^◌, ◌↔◌, true, IsTrue, length};
 ghost use Rattle.std.specs.Int.{IsGcd};
-ghost use Rattle.lid_graph.specs.Walks.{IsWalk, IsClosedWalk, walk_start, walk_tokens};
+ghost use Rattle.lid_graph.specs.Walks.{walk_tokens};
 ghost use Rattle.lid_cert.specs.Certificates.{ascends, AreLists, IsEdgeMet, IsStartMet, IsVia, IsNodeMet, IsPartInRange};
 
 use crate::cert::Part;
@@ -40,43 +40,6 @@ pub(crate) fn are_lists(part: &Part) -> bool
         && part.lead.len() == count
         && part.via.len() == count
         && part.depth.len() == count
-}
-
-/// Where the first edge of a walk begins, or 0 where there is no edge of this number.
-pub(crate) fn walk_start(graph: &Graph, walk: &[u32]) -> u32
-    ensures { result ≡ walk_start graph.now walk.now }
-{
-    let edges = graph.edges.as_slice();
-    match walk {
-        [first, ..] if (*first as usize) < edges.len() => edges[*first as usize].from,
-        _ => 0,
-    }
-}
-
-/// Whether edges lead from one transition to another, each beginning where the one before ends.
-fn is_walk(graph: &Graph, from: u32, walk: &[u32], to: u32) -> bool
-    ensures { IsTrue result ↔ IsWalk graph.now from walk.now to }
-{
-    let edges = graph.edges.as_slice();
-    let mut at = from;
-    let mut rest = walk;
-    while let [number, after @ ..] = rest {
-        let number = *number as usize;
-        if number >= edges.len() || edges[number].from != at {
-            return false;
-        }
-        at = edges[number].to;
-        rest = after;
-    }
-    at == to
-}
-
-/// Whether edges make a closed walk.
-pub(crate) fn is_closed_walk(graph: &Graph, walk: &[u32]) -> bool
-    ensures { IsTrue result ↔ IsClosedWalk graph.now walk.now }
-{
-    let start = walk_start(graph, walk);
-    !walk.is_empty() && is_walk(graph, start, walk, start)
 }
 
 /// The tokens on the edges of a walk. A number that is no edge's counts for nothing.

@@ -186,7 +186,8 @@ pub fn find_reached(
     requires cut { length cut.now ≡ length graph.now.reads.now }
     requires starts { length starts.now ≡ length graph.now.reads.now }
     ensures count { IfOk result (λ found. length found ≡ length graph.now.reads.now) }
-    ensures exact { IfOk result (λ found. (k : ℕ) → k < length graph.now.reads.now → IsTrue (flag found k) ↔ IsReached graph.now.reads.now cut.now starts.now k) }
+    ensures exact { IfOk result (λ found. (k : ℕ) → k < length graph.now.reads.now
+        → IsTrue (flag found k) ↔ IsReached graph.now.reads.now cut.now starts.now k) }
 {
     let mut reached = Vec::from_elem(alloc, false, graph.reads.len())?;
     reach_all(reached.as_mut_slice(), graph, order, cut, starts);

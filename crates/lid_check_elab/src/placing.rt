@@ -195,7 +195,8 @@ fn visit(
     requires rest { AreNext judged.now (scope.start + size_of judged.now scope.model) (reverse stack.now.items) }
     ensures after { OnOk result (ArePlaced judged.now (map (shown_driver judged.now) drivers.new.items)) }
     ensures next { OnOk result (AreNext judged.now (length drivers.new.items) (reverse stack.new.items)) }
-    ensures lighter { OnOk result (weights judged.now (reverse stack.new.items) < weights judged.now (reverse stack.old.items) + weight_of judged.now scope.model) }
+    ensures lighter { OnOk result (weights judged.now (reverse stack.new.items)
+        < weights judged.now (reverse stack.old.items) + weight_of judged.now scope.model) }
 {
     let offsets = scope_template(judged, templates, scope).offsets.as_slice();
     place_scope(alloc, judged, templates, drivers, scope)?;

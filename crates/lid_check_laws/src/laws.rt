@@ -20,7 +20,8 @@ ghost use Rattle.lid_check_laws.specs.Plain.{IsPlainPearl, IsRising, IsApart, Ar
 pub fn one_model_is_accepted()
     ensures models { (d : Design) (m : Model) → slice_get d.models d.root ≡ Some m → IsPlainPearl m → length m.cells ≤ 262144
         → length m.inputs + length m.cells ≤ 1048576 → ModelsPass d }
-    ensures loops { (d : Design) (m : Model) (heights : List (List ℕ × ℕ)) → slice_get d.models d.root ≡ Some m → m.insts ≡ [] → IsRising heights m → HasNoLoop d }
+    ensures loops { (d : Design) (m : Model) (heights : List (List ℕ × ℕ)) → slice_get d.models d.root ≡ Some m → m.insts ≡ [] → IsRising heights m
+        → HasNoLoop d }
     ensures outputs { (d : Design) (m : Model) (late : List (List ℕ)) → slice_get d.models d.root ≡ Some m → m.insts ≡ [] → IsApart late m → HasNoDependence d }
     ensures accepted { (d : Design) (m : Model) (heights : List (List ℕ × ℕ)) (late : List (List ℕ)) → slice_get d.models d.root ≡ Some m
         → IsPlainPearl m → IsRising heights m → IsApart late m → length m.cells ≤ 262144 → length m.inputs + length m.cells ≤ 1048576 → IsAccepted d }

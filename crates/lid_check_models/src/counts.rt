@@ -59,7 +59,8 @@ pub fn count_model(
 /// What is counted in each reached model and in all instances in it, over all paths, by the numbers of
 /// the models, each at most 18,446,744,073,709,551,615. It goes over each reached model once.
 pub fn count_each(alloc: Global, survey: &Survey<'_>, what: Measure) -> Result<Vec<u64>, AllocError>
-    ensures { IfOk result (λ counts. (k : ℕ) → IsReached survey.now k → slice_index_or counts.items k 0 ≡ min (count_of what survey.now k) 18446744073709551615) }
+    ensures { IfOk result (λ counts. (k : ℕ) → IsReached survey.now k
+        → slice_index_or counts.items k 0 ≡ min (count_of what survey.now k) 18446744073709551615) }
 {
     let order = survey.order();
     let mut counts = Vec::from_elem(alloc, 0u64, survey.design().models.len())?;

@@ -51,7 +51,8 @@ fn model_of(alloc: Global, ports: Ports, cells: Vec<Cell>) -> Model
 
 /// The name of the root, and the names of the ports.
 fn make_ports(alloc: Global, checked: &Checked) -> Result<Ports, AllocError>
-    ensures { IfOk result (λ ports. (ports.name ≡ root_name checked.now) × (ports.inputs ≡ input_names checked.now) × (ports.outputs ≡ output_names checked.now)) }
+    ensures { IfOk result (λ ports. (ports.name ≡ root_name checked.now) × (ports.inputs ≡ input_names checked.now)
+        × (ports.outputs ≡ output_names checked.now)) }
 {
     let inputs = inputs_of(alloc, checked)?;
     let outputs = outputs_of(alloc, checked)?;

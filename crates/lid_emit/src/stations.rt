@@ -24,7 +24,8 @@ pub fn stations_size(placed: &Placed<'_>) -> u64
 fn channel_size(placed: &Placed<'_>, c: usize, station: usize) -> u64
     requires there { c < length placed.now.placement.relays }
     requires first { station ≡ station_count (take c placed.now.placement.relays) }
-    ensures { result ≡ min (sizes_from (links_in placed.now) placed.now.placement station (slice_index_or placed.now.placement.relays c 0 + 1)) 18446744073709551615 }
+    ensures { result ≡ min (sizes_from (links_in placed.now) placed.now.placement station (slice_index_or placed.now.placement.relays c 0 + 1))
+        18446744073709551615 }
 {
     let ports = placed.system.channels.as_slice()[c].ports.as_slice().len();
     let mut size = 0u64;

@@ -84,7 +84,8 @@ impl Pen<'_> {
     /// Pushes all data outputs.
     fn push_showns(&mut self, outer: &Outer) -> Result<(), AllocError>
         requires { length outer.now.shows < 2 ^ 32 }
-        ensures { OnOk result ((q : CircuitPlan) → IsOuterOf q outer.now → self.new ≡ with_wires q self.old (from_each circuit.shown 0 (length outer.now.shows))) }
+        ensures { OnOk result ((q : CircuitPlan) → IsOuterOf q outer.now
+            → self.new ≡ with_wires q self.old (from_each circuit.shown 0 (length outer.now.shows))) }
     {
         for j in 0..outer.shows.len() {
             let wire = outer.shows.as_slice()[j];

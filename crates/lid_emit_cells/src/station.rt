@@ -52,7 +52,8 @@ impl Pen<'_> {
     /// Pushes the levels of a station, of which it always reaches the lowest.
     fn push_levels(&mut self, s: u32, station: &Station) -> Result<(), AllocError>
         requires { station.now.capacity ≤ 16 }
-        ensures { OnOk result ((q : CircuitPlan) → IsStationOf q s station.now → self.new ≡ with_wires q self.old (from_each (level s) 0 (station.now.capacity + 2))) }
+        ensures { OnOk result ((q : CircuitPlan) → IsStationOf q s station.now
+            → self.new ≡ with_wires q self.old (from_each (level s) 0 (station.now.capacity + 2))) }
     {
         self.push_constant(Wire::Level(s, 0), true)?;
         for i in 0..station.capacity + 1 {
@@ -93,7 +94,8 @@ impl Pen<'_> {
     /// Pushes what the levels of a station take.
     fn push_growns(&mut self, s: u32, station: &Station) -> Result<(), AllocError>
         requires { station.now.capacity ≤ 16 }
-        ensures { OnOk result ((q : CircuitPlan) → IsStationOf q s station.now → self.new ≡ with_wires q self.old (from_each (grown s) 1 station.now.capacity)) }
+        ensures { OnOk result ((q : CircuitPlan) → IsStationOf q s station.now
+            → self.new ≡ with_wires q self.old (from_each (grown s) 1 station.now.capacity)) }
     {
         for i in 0..station.capacity {
             self.push_grown(s, station, i)?;

@@ -4,7 +4,9 @@
 mod graph;
 mod pairing;
 mod union_find;
+mod walks;
 
 pub use graph::{Edge, Graph};
 pub use pairing::is_paired;
 pub use union_find::components;
+pub use walks::{is_closed_walk, walk_start};

@@ -37,7 +37,8 @@ pub fn designs_and_systems_agree()
     ensures outputs { (d : Design) (s : System) (i : ℕ) (pearl : View) (ins : List InBit) (of : IsSystemOf d s) (here : slice_get s.nodes i
         ≡ Some (Shell pearl ins))
         → map (column_of d of.columns) (ports_at s i) ≡ map (column (of.shells i pearl ins here).path) (of.shells i pearl ins here).model.outputs }
-    ensures there { (d : Design) (s : System) (rows outs : List (List Bool)) → IsSystemOf d s → IsWellFormed s → IsStrictOutput d rows outs → IsOutput s rows outs }
+    ensures there { (d : Design) (s : System) (rows outs : List (List Bool)) → IsSystemOf d s → IsWellFormed s → IsStrictOutput d rows outs
+        → IsOutput s rows outs }
     ensures back { (d : Design) (s : System) (rows outs : List (List Bool)) (b : Table Column) → IsSystemOf d s → IsWellFormed s
         → IsStrict (drivers d) rows b → IsOutput s rows outs → IsStrictOutput d rows outs }
 {}

@@ -25,6 +25,8 @@ pub fn pearls_follow_tables()
 /// A flat part and one with its covers in the order of a pearl have the same strict tables. This does
 /// nothing; its contract is the law.
 pub fn reordered_parts_have_the_same_tables()
-    ensures there { (f g : Flat) (rows : List (List Bool)) (b : Table ℕ) → IsReordered f g → IsStrict (flat_drivers f) rows b → IsStrict (flat_drivers g) rows b }
-    ensures back { (f g : Flat) (rows : List (List Bool)) (b : Table ℕ) → IsReordered f g → IsStrict (flat_drivers g) rows b → IsStrict (flat_drivers f) rows b }
+    ensures there { (f g : Flat) (rows : List (List Bool)) (b : Table ℕ) → IsReordered f g → IsStrict (flat_drivers f) rows b
+        → IsStrict (flat_drivers g) rows b }
+    ensures back { (f g : Flat) (rows : List (List Bool)) (b : Table ℕ) → IsReordered f g → IsStrict (flat_drivers g) rows b
+        → IsStrict (flat_drivers f) rows b }
 {}

@@ -54,9 +54,19 @@ impl Model for Pearl {
 
     ghost Value = { View };
 
-    ghost view = { λ p. record { flat = record { nets = p.shape.nets; ins = p.shape.ins.items; outs = p.shape.outs.items; latches = p.shape.latches.items; covers = program_covers p.plan.early.program ++ program_covers p.plan.late.program }; state = p.row.state.items } };
+    ghost view = { λ p. record {
+      flat = record {
+        nets = p.shape.nets;
+        ins = p.shape.ins.items;
+        outs = p.shape.outs.items;
+        latches = p.shape.latches.items;
+        covers = program_covers p.plan.early.program ++ program_covers p.plan.late.program;
+      };
+      state = p.row.state.items;
+    } };
 
-    ghost invariant = { λ p. ArePearlFields p.shape.nets p.shape.ins.items p.shape.outs.items p.shape.latches.items p.plan.early p.plan.late p.row.state.items p.row.bits.items };
+    ghost invariant = { λ p. ArePearlFields p.shape.nets p.shape.ins.items p.shape.outs.items p.shape.latches.items p.plan.early p.plan.late
+        p.row.state.items p.row.bits.items };
 }
 
 impl Pearl {
@@ -153,10 +163,12 @@ fn run(
     inputs: &[bool],
     into: &mut [bool],
 )
-    requires kept { ArePearlFields shape.now.nets shape.now.ins.items shape.now.outs.items shape.now.latches.items plan.now.early plan.now.late state.old bits.old }
+    requires kept { ArePearlFields shape.now.nets shape.now.ins.items shape.now.outs.items shape.now.latches.items plan.now.early plan.now.late
+        state.old bits.old }
     requires inputs { length inputs.now ≡ length shape.now.ins.items }
     requires outs { length into.old ≡ length shape.now.outs.items }
-    ensures kept { ArePearlFields shape.now.nets shape.now.ins.items shape.now.outs.items shape.now.latches.items plan.now.early plan.now.late state.new bits.new }
+    ensures kept { ArePearlFields shape.now.nets shape.now.ins.items shape.now.outs.items shape.now.latches.items plan.now.early plan.now.late
+        state.new bits.new }
     ensures state { (f : ℕ → Bool) → IsRow (program_covers plan.now.early.program) f → IsRow (program_covers plan.now.late.program) f
         → map f (held shape.now.latches.items) ≡ state.old → map f shape.now.ins.items ≡ inputs.now
         → state.new ≡ map f (map latch_input shape.now.latches.items) }

@@ -105,7 +105,8 @@ fn search_piece(alloc: Global, piece: &Graph, first: u32) -> Result<Findings, Al
     requires piece { IsSmallGraph piece.now }
     requires first { IsLoop piece.now first }
     requires joined { (u : ℕ) → u < piece.now.nodes → AreAllJoined piece.now u }
-    ensures { IfOk result (λ all. IsFoundOfPiece piece.now all.rate.ratio.p all.rate.ratio.q all.rate.walk all.rate.lags all.tree.via all.tree.lead all.tree.depth) }
+    ensures { IfOk result (λ all. IsFoundOfPiece piece.now all.rate.ratio.p all.rate.ratio.q all.rate.walk all.rate.lags all.tree.via all.tree.lead
+        all.tree.depth) }
 {
     let rate = rate_of(alloc, piece, first)?;
     let start = start_of(piece, rate.walk.as_slice());
@@ -162,7 +163,8 @@ fn assemble(named: Numbering, found: Findings) -> Part
 
 /// The part that says of the graph what was found of its piece.
 fn lifted(alloc: Global, nodes: &[u32], edges: &[u32], found: Findings) -> Result<Part, AllocError>
-    ensures { IfOk result (IsLifted nodes.now edges.now found.rate.ratio.p found.rate.ratio.q found.rate.walk found.rate.lags found.tree.via found.tree.lead found.tree.depth) }
+    ensures { IfOk result (IsLifted nodes.now edges.now found.rate.ratio.p found.rate.ratio.q found.rate.walk found.rate.lags found.tree.via
+        found.tree.lead found.tree.depth) }
 {
     let named = numbering_of(alloc, nodes, edges, &found)?;
     Ok(assemble(named, found))

@@ -32,7 +32,11 @@ fn relax(potentials: &mut Potentials, edge: Edge, k: u32, p: u64, q: u64) -> boo
     requires p { p ≤ 2 ^ 22 }
     requires q { q ≤ 2 ^ 18 }
     requires tokens { edge.tokens ≤ 16 }
-    ensures { MatchBool result (Relaxes edge k p q potentials.old.values.items potentials.old.predecessors.items potentials.new.values.items potentials.new.predecessors.items) (StaysRelaxed edge p q potentials.old.values.items potentials.old.predecessors.items potentials.new.values.items potentials.new.predecessors.items) }
+    ensures { MatchBool result
+        (Relaxes edge k p q potentials.old.values.items potentials.old.predecessors.items
+        potentials.new.values.items potentials.new.predecessors.items)
+        (StaysRelaxed edge p q potentials.old.values.items potentials.old.predecessors.items
+        potentials.new.values.items potentials.new.predecessors.items) }
 {
     let taken = q * u64::from(edge.tokens);
     let reached = potentials.values[edge.from as usize] + p;

@@ -44,7 +44,11 @@ fn extend(tree: &mut Tree, edge: Edge, k: u32, start: u32, q: u64) -> bool
     requires shallow { slice_index tree.old.depth.items edge.from ≤ 2 ^ 18 }
     requires q { q ≤ 2 ^ 18 }
     requires tokens { edge.tokens ≤ 16 }
-    ensures { MatchBool result (AddsEdge edge k start q tree.old.via.items tree.old.lead.items tree.old.depth.items tree.new.via.items tree.new.lead.items tree.new.depth.items) (AddsNone edge start tree.old.via.items tree.old.lead.items tree.old.depth.items tree.new.via.items tree.new.lead.items tree.new.depth.items) }
+    ensures { MatchBool result
+        (AddsEdge edge k start q tree.old.via.items tree.old.lead.items tree.old.depth.items
+        tree.new.via.items tree.new.lead.items tree.new.depth.items)
+        (AddsNone edge start tree.old.via.items tree.old.lead.items tree.old.depth.items
+        tree.new.via.items tree.new.lead.items tree.new.depth.items) }
 {
     if !reached(tree, start, edge.from) || reached(tree, start, edge.to) {
         return false;

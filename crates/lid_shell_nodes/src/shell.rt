@@ -50,7 +50,8 @@ impl Model for ShellNode {
 
     ghost view = { λ p. record { pearl = p.pearl; taken = p.wires.inputs.taken; reads = p.wires.inputs.reads.items; ports = p.wires.ports.items } };
 
-    ghost invariant = { λ p. AreShellFields (length p.pearl.flat.ins) (length p.pearl.flat.outs) p.wires.inputs.taken p.wires.inputs.reads.items p.wires.ports.items p.room.ins.items p.room.outs.items };
+    ghost invariant = { λ p. AreShellFields (length p.pearl.flat.ins) (length p.pearl.flat.outs) p.wires.inputs.taken p.wires.inputs.reads.items
+        p.wires.ports.items p.room.ins.items p.room.outs.items };
 }
 
 impl ShellNode {

@@ -21,7 +21,8 @@ use std::alloc::{AllocError, Global};
 /// Whether a closed walk is below the ratio that is wanted.
 fn is_below(wants: &[Ratio], way: Way) -> bool
     requires known { (g : Graph) × (n : ℕ) × (caps : List ℕ) × IsWayTo g n caps way.from way × AreForwardRatios g n wants.now }
-    ensures { (g : Graph) (n : ℕ) (caps : List ℕ) → AreForwardRatios g n wants.now → IsWayTo g n caps way.from way → IsTrue result → IsRefuted g n wants.now caps }
+    ensures { (g : Graph) (n : ℕ) (caps : List ℕ) → AreForwardRatios g n wants.now → IsWayTo g n caps way.from way → IsTrue result
+        → IsRefuted g n wants.now caps }
 {
     let want = wants[way.from as usize];
     want.q * u64::from(way.tokens) < want.p * u64::from(way.edges)

@@ -13,9 +13,8 @@ ghost use Rattle.lid_size.specs.Choices.{followed};
 ghost use Rattle.lid_size.specs.Sizing.{sized};
 ghost use Rattle.lid_size.specs.Testing.{IsWidest, IsWayTo, AreWays, empty_way};
 
-use lid_graph::Graph;
+use lid_graph::{Graph, walk_start};
 use lid_rate_ratio::edge;
-use lid_size_forward::walk_start;
 use std::alloc::{AllocError, Global};
 
 /// A walk: where it begins, how many edges it has, and no fewer tokens than are on them.
@@ -50,7 +49,8 @@ fn tokens_with(graph: &Graph, count: u32, done: &[u32], next: u32, k: u32) -> u3
     requires range { All IsCapacity done.now }
     requires next { IsCapacity next }
     requires within { k < length graph.now.edges }
-    ensures is { (s : System) (relays : List ℕ) → IsWidest graph.now count s relays → result ≡ (edge_at (sized (links_of s) relays (followed count done.now next)) k).tokens }
+    ensures is { (s : System) (relays : List ℕ) → IsWidest graph.now count s relays
+        → result ≡ (edge_at (sized (links_of s) relays (followed count done.now next)) k).tokens }
     ensures few { result ≤ 16 }
 {
     let tokens = edge(graph, k).tokens;

@@ -1,10 +1,12 @@
 -- For the test of forward ratios: closed walks that have them, and labels that show that none is lower.
-use Rattle.std.specs.Prelude.{◌≡◌, ℕ, ◌+◌, ◌*◌, ◌^◌, ◌<◌, ◌≤◌, List, length, slice_index, slice_index_or}
+use Rattle.std.specs.Prelude.{◌≡◌, ℕ, zero, suc, ◌+◌, ◌-◌, ◌*◌, ◌^◌, ◌<◌, ◌≤◌, nat_le, ◌&&◌, if◌then◌else◌, List, [], length, take, drop, slice_index, slice_index_or}
+use Rattle.std.specs.List.{All}
 use Rattle.std.specs.Int.{IsGcd}
 use Rattle.lid_graph.specs.declared.graph.Graph.{Graph}
-use Rattle.lid_graph.specs.Walks.{edge_at, walk_tokens}
+use Rattle.lid_graph.specs.Walks.{edge_at, walk_start, walk_tokens, IsClosedWalk}
 use Rattle.lid_rate_ratio.specs.declared.lowest_terms.Ratio.{Ratio}
 use Rattle.lid_size_laws.specs.Capacities.{IsForward, IsForwardWalkNear}
+use Rattle.lid_size_guess.specs.declared.forwards.Forwards.{Forwards}
 use Rattle.lid_size_forward.specs.ForwardParts.{no_ratio}
 
 -- a closed forward walk of the component of v has this ratio, which is in lowest terms
@@ -30,3 +32,31 @@ IsForwardMet g wants labels k =
 -- so it is along each forward edge
 abbrev pub MeetForwardRule : Graph → ℕ → List Ratio → List ℕ → Type 0
 MeetForwardRule g n wants labels = (k : ℕ) → k < length g.edges → IsForward n k → IsForwardMet g wants labels k
+
+-- where one of some walks that stand one after the other begins: where the one before ends
+abbrev pub walk_begin : List ℕ → ℕ → ℕ
+walk_begin ends zero = 0
+walk_begin ends (suc at) = slice_index_or ends at 0
+
+-- one of them, or none where the ends are wrong
+abbrev pub walk_in : List ℕ → List ℕ → ℕ → List ℕ
+walk_in walks ends at =
+    if nat_le (walk_begin ends at) (slice_index_or ends at 0) && nat_le (slice_index_or ends at 0) (length walks)
+    then take (slice_index_or ends at 0 - walk_begin ends at) (drop (walk_begin ends at) walks) else []
+
+-- a short closed forward walk of the component whose least transition is this
+pub record IsForwardWalkAt (g : Graph) (n : ℕ) (least : List ℕ) (label : ℕ) (walk : List ℕ) : Type 0 where
+  pub short : length walk ≤ 262144
+  pub closed : IsClosedWalk g walk
+  pub forward : All (IsForward n) walk
+  pub at : slice_index least (walk_start g walk) ≡ label
+
+-- a guess has such a walk for each component
+abbrev pub HasForwardWalks : Graph → ℕ → List ℕ → List ℕ → List ℕ → Type 0
+HasForwardWalks g n least walks ends = (v : ℕ) → v < g.nodes → slice_index least v ≡ v → IsForwardWalkAt g n least v (walk_in walks ends v)
+
+-- and labels that show that no ratio of these walks is too great
+pub record ShowsRatios (g : Graph) (n : ℕ) (least : List ℕ) (forwards : Forwards) : Type 0 where
+  pub many : length forwards.labels ≡ g.nodes
+  pub walks : HasForwardWalks g n least forwards.walks forwards.ends
+  pub met : (wants : List Ratio) → AreWalksBelow g n least g.nodes wants → MeetForwardRule g n wants forwards.labels

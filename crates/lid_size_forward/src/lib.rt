@@ -7,4 +7,3 @@ mod ratios;
 mod walks;
 
 pub use forward::forward_ratios;
-pub use walks::{is_closed, walk_at, walk_start};

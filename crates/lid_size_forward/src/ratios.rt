@@ -1,14 +1,14 @@
 //! Forward ratios of all components at once, where closed walks have them and labels show that none is
 //! lower.
 
-ghost use Rattle.std.specs.Prelude.{◌≡◌, ℕ, ◌+◌, ◌*◌, ◌<◌, ◌≤◌, ◌^◌, ◌↔◌, length, slice_index, IsTrue, IfOk, IfSome};
+ghost use Rattle.std.specs.Prelude.{◌≡◌, ℕ, ◌+◌, ◌*◌, ◌<◌, ◌≤◌, ◌^◌, ◌↔◌, length, slice_index, None, IsTrue, IfOk, IfSome};
 ghost use Rattle.lid_graph.specs.Walks.{edge_at};
 ghost use Rattle.lid_rate.specs.Rates.{AreLabels};
 ghost use Rattle.lid_size_forward.specs.ForwardParts.{HasStations, AreForwardRatios};
-ghost use Rattle.lid_size_forward.specs.ForwardWalks.{HasForwardWalk, AreWalksBelow, MeetForwardRule};
+ghost use Rattle.lid_size_forward.specs.ForwardWalks.{HasForwardWalk, IsForwardWalkAt, HasForwardWalks, AreWalksBelow, MeetForwardRule, ShowsRatios};
 
-use crate::walks::{are_forward, is_closed, is_forward, walk_at, walk_start};
-use lid_graph::{Edge, Graph};
+use crate::walks::{are_forward, is_forward, walk_at};
+use lid_graph::{Edge, Graph, is_closed_walk, walk_start};
 use lid_rate_ratio::{Ratio, edge, lowest, tokens_on};
 use lid_size_guess::Forwards;
 use std::alloc::{AllocError, Global};
@@ -24,9 +24,10 @@ fn walk_ratio(
 ) -> Option<Ratio>
     requires graph { HasStations graph.now stations }
     requires labels { AreLabels graph.now least.now }
-    ensures { IfSome result (HasForwardWalk graph.now stations label) }
+    ensures some { IfSome result (HasForwardWalk graph.now stations label) }
+    ensures none { result ≡ None → IsForwardWalkAt graph.now stations least.now label walk.now → ⊥ }
 {
-    if walk.len() > 262_144 || !is_closed(graph, walk) || !are_forward(stations, walk) {
+    if walk.len() > 262_144 || !is_closed_walk(graph, walk) || !are_forward(stations, walk) {
         return None;
     }
     if least[walk_start(graph, walk) as usize] != label {
@@ -45,7 +46,8 @@ fn walk_ratios(
 ) -> Result<Option<Vec<Ratio>>, AllocError>
     requires graph { HasStations graph.now stations }
     requires labels { AreLabels graph.now least.now }
-    ensures { IfOk result (λ found. IfSome found (λ wants. AreWalksBelow graph.now stations least.now graph.now.nodes wants.items)) }
+    ensures some { IfOk result (λ found. IfSome found (λ wants. AreWalksBelow graph.now stations least.now graph.now.nodes wants.items)) }
+    ensures none { IfOk result (λ found. found ≡ None → HasForwardWalks graph.now stations least.now forwards.now.walks forwards.now.ends → ⊥) }
 {
     let mut wants = Vec::new(alloc);
     for v in 0..graph.nodes {
@@ -79,7 +81,7 @@ fn meet_rule(graph: &Graph, stations: u32, wants: &[Ratio], labels: &[u64]) -> b
     requires graph { HasStations graph.now stations }
     requires wants { length wants.now ≡ graph.now.nodes }
     requires labels { length labels.now ≡ graph.now.nodes }
-    ensures { IsTrue result → MeetForwardRule graph.now stations wants.now labels.now }
+    ensures { IsTrue result ↔ MeetForwardRule graph.now stations wants.now labels.now }
 {
     for k in 0..graph.edges.len() {
         let along = edge(graph, k as u32);
@@ -104,7 +106,8 @@ pub(crate) fn shown_ratios(
 ) -> Result<Option<Vec<Ratio>>, AllocError>
     requires graph { HasStations graph.now stations }
     requires labels { AreLabels graph.now least.now }
-    ensures { IfOk result (λ found. IfSome found (λ wants. AreForwardRatios graph.now stations wants.items)) }
+    ensures some { IfOk result (λ found. IfSome found (λ wants. AreForwardRatios graph.now stations wants.items)) }
+    ensures none { IfOk result (λ found. found ≡ None → ShowsRatios graph.now stations least.now forwards.now → ⊥) }
 {
     if forwards.labels.len() != graph.nodes as usize {
         return Ok(None);

@@ -86,7 +86,8 @@ fn lower_walk(alloc: Global, probe: &Probe<'_>, more: u32) -> Result<Option<Lowe
     requires can { CanProbe probe.now more }
     requires present { ShowsPresent probe.now }
     ensures some { IfOk result (λ found. IfSome found (λ lower. IsAgainstMore probe.now more lower.walk)) }
-    ensures ratio { IfOk result (λ found. IfSome found (λ lower. IsRatio (marking_with probe.now more) (producer (links_of probe.now.system.now) probe.now.channel) lower.ratio.p lower.ratio.q)) }
+    ensures ratio { IfOk result (λ found. IfSome found (λ lower. IsRatio (marking_with probe.now more)
+        (producer (links_of probe.now.system.now) probe.now.channel) lower.ratio.p lower.ratio.q)) }
     ensures lowers { IfOk result (λ found. IfSome found (λ lower. ProbeKeeps probe.now more → ⊥)) }
     ensures none { IfOk result (λ found. IsNone found → ProbeKeeps probe.now more) }
 {

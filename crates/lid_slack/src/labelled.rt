@@ -105,7 +105,8 @@ fn lower_ratio(
     requires graph { graph.now ≡ present_marking probe.now }
     requires rateable { IsRateable graph.now }
     ensures lowers { IfSome result (λ ratio. ProbeKeeps probe.now more → ⊥) }
-    ensures ratio { IfSome result (λ ratio. IsRatio (marking_with probe.now more) (producer (links_of probe.now.system.now) probe.now.channel) ratio.p ratio.q) }
+    ensures ratio { IfSome result (λ ratio. IsRatio (marking_with probe.now more) (producer (links_of probe.now.system.now) probe.now.channel)
+        ratio.p ratio.q) }
 {
     let Some(ratio) = way_ratio(probe, graph, more, way) else {
         return None;

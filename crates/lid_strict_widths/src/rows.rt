@@ -50,7 +50,8 @@ fn value_by_rows(on: bool, cubes: &[Cube], nets: &[u32], bits: &[bool]) -> bool
 pub(crate) fn value_of_step(program: &Program, step: ProgramStep, bits: &[bool]) -> bool
     requires step { IsStep program.now.nets program.now.reads.items program.now.cubes.items step }
     requires below { AllByRecursion (λ k. k < length bits.now) program.now.reads.items }
-    ensures { result ≡ cover_value (step_cover program.now.cubes.items step) (map (bit_at bits.now) (take step.width (drop step.first program.now.reads.items))) }
+    ensures { result ≡ cover_value (step_cover program.now.cubes.items step) (map (bit_at bits.now)
+        (take step.width (drop step.first program.now.reads.items))) }
 {
     let first = step.first as usize;
     value_by_rows(

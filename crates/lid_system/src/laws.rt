@@ -45,7 +45,8 @@ pub fn systems_have_one_table()
 /// for each row: that of each table. This does nothing; its contract is the law.
 pub fn channels_have_one_stream()
     ensures some { (s : System) (rows : List (List Bool)) (c : ℕ) → IsWellFormed s → c < length s.channels → (tokens : List ℕ) × IsStream s rows c tokens }
-    ensures one { (s : System) (rows : List (List Bool)) (c : ℕ) (tokens others : List ℕ) → IsStream s rows c tokens → IsStream s rows c others → tokens ≡ others }
+    ensures one { (s : System) (rows : List (List Bool)) (c : ℕ) (tokens others : List ℕ) → IsStream s rows c tokens → IsStream s rows c others
+        → tokens ≡ others }
     ensures long { (s : System) (rows : List (List Bool)) (c : ℕ) (tokens : List ℕ) → IsStream s rows c tokens → length tokens ≡ length rows }
     ensures small { (s : System) (rows : List (List Bool)) (c : ℕ) (tokens : List ℕ) → IsWellFormed s → IsStream s rows c tokens
         → AllByRecursion (λ token. token < 2 ^ 31) tokens }

@@ -97,7 +97,8 @@ impl RowScan {
         ensures walked { (lines : List (List ℕ)) → length lines + 1 < 2 ^ 64 → WalkGoes self.old.columns self.old.outs lines self.old.walk
             → OnOk result (IsWalked self.old.columns self.old.outs (lines ++ (self.old.partial.items ++ rest.now) ∷ []) self.new.walk) }
         ensures rows { (lines : List (List ℕ)) → length lines + 1 < 2 ^ 64 → WalkGoes self.old.columns self.old.outs lines self.old.walk
-            → OnOk result (RowsGrow self.old.columns self.old.outs (logical_of lines) (logical_of (lines ++ (self.old.partial.items ++ rest.now) ∷ [])) into.old.items into.new.items) }
+            → OnOk result (RowsGrow self.old.columns self.old.outs (logical_of lines)
+            (logical_of (lines ++ (self.old.partial.items ++ rest.now) ∷ [])) into.old.items into.new.items) }
         ensures kept { OnErr result (into.new.items ≡ into.old.items) }
         ensures partial { OnOk result (self.new.partial.items ≡ []) }
         ensures columns { self.new.columns ≡ self.old.columns }

@@ -61,7 +61,8 @@ fn later(variables: u32, at: u32, digits: &[u8]) -> Option<Place>
 
 /// The place after a change of a variable, which is a token, or else a bit.
 fn variable_set(variables: u32, at: u32, value: u32, id: &[u8], token: bool) -> Option<Place>
-    ensures { result ≡ (if token then token_set variables at value (variable_of variables id.now) else bit_set variables at value (variable_of variables id.now)) }
+    ensures { result ≡ (if token then token_set variables at value (variable_of variables id.now) else bit_set variables at value
+        (variable_of variables id.now)) }
 {
     match variable_of(variables, id) {
         Some(variable) if is_token(variable) == token => Some(Place {

@@ -72,7 +72,8 @@ fn cut_word(bytes: &[u8]) -> (&[u8], &[u8])
 /// The next word of a text whose first byte stands on this line. `None` is no word. It takes no memory.
 pub fn next_word(line: u32, bytes: &[u8]) -> Option<PlacedWord<'_>>
     requires { line + length bytes.now < 4294967296 }
-    ensures words { MatchOption result (words_on line [] bytes.now ≡ []) (λ p. words_on line [] bytes.now ≡ (p.line, p.word.now) ∷ words_on p.line [] p.after.now) }
+    ensures words { MatchOption result (words_on line [] bytes.now ≡ []) (λ p. words_on line [] bytes.now
+        ≡ (p.line, p.word.now) ∷ words_on p.line [] p.after.now) }
     ensures bound { IfSome result (λ p. p.line + length p.after.now ≤ line + length bytes.now) }
     ensures shorter { IfSome result (λ p. length p.after.now < length bytes.now) }
 {

@@ -15,7 +15,7 @@ pub loop-v-preserved : goal.loop-v-preserved
 loop-v-preserved c = elim c.if-label-v.branch [
   | then-label-v+in-Some+in_ok-push w ↦
       subst (AreWalksBelow c.args.graph.now c.args.stations c.args.least.now (c.loop-v.v + 1)) (sym (ap (λ (v : Vec Ratio Global). v.items) w.wants-is ∙ w.in_ok-push.ensures.items))
-      (walks_push c.args.graph.now c.args.stations c.requires.graph c.args.least.now c.requires.labels c.loop-v.v c.loop-v.wants.items w.in-Some.want c.loop-v-test.true c.loop-v.invariant w.if-label-v.true w.in-Some.ensures)
+      (walks_push c.args.graph.now c.args.stations c.requires.graph c.args.least.now c.requires.labels c.loop-v.v c.loop-v.wants.items w.in-Some.want c.loop-v-test.true c.loop-v.invariant w.if-label-v.true w.in-Some.ensures.some)
   | else-label-v+in_ok-push-2 w ↦
       let low : get_or c.args.least.now c.loop-v.v 0 < length c.loop-v.wants.items = omega (arith, label_low c.args.graph.now c.args.stations c.requires.graph c.args.least.now c.requires.labels c.loop-v.v c.loop-v-test.true, w.if-label-v.false, c.loop-v.invariant.count) in
       subst (AreWalksBelow c.args.graph.now c.args.stations c.args.least.now (c.loop-v.v + 1)) (sym (ap (λ (v : Vec Ratio Global). v.items) w.wants-is ∙ w.in_ok-push-2.ensures.items))

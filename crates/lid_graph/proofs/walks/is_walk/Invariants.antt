@@ -1,6 +1,6 @@
 use Rattle.std.proofs.Common.{◌↔◌, length}
 use Rattle.lid_graph.specs.Walks.{IsWalk}
-use Rattle.lid_cert.proofs.rules.is_walk.Given as goal
+use Rattle.lid_graph.proofs.walks.is_walk.Given as goal
 
 abbrev pub invariant-loop-rest : goal.invariant-loop-rest
 invariant-loop-rest l = IsWalk l.graph l.at l.rest l.to ↔ IsWalk l.graph l.fn.from l.fn.walk l.to
