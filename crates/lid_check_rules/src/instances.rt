@@ -78,7 +78,17 @@ fn find_by_rule_in<'d>(
 {
     let insts = model.insts.as_slice();
     for i in 0..insts.len() {
-        let told = find_by_rule_of(alloc, ports, rule, k, i as u32, model, &insts[i])?;
+        let told = find_by_rule_of(
+            alloc,
+            ports,
+            rule,
+            Site {
+                model: k,
+                inst: i as u32,
+            },
+            model,
+            &insts[i],
+        )?;
         if told.is_some() {
             return Ok(told);
         }
@@ -86,22 +96,28 @@ fn find_by_rule_in<'d>(
     Ok(None)
 }
 
+/// The number of a model, and that of one of its instances.
+#[derive(Clone, Copy)]
+struct Site {
+    model: u32,
+    inst: u32,
+}
+
 /// What a condition tells of an instance.
 fn find_by_rule_of<'d>(
     alloc: Global,
     ports: &Ports<'d>,
     rule: InstRule,
-    k: u32,
-    i: u32,
+    site: Site,
     model: &'d Model,
     inst: &'d Inst,
 ) -> Result<Option<Told<'d>>, AllocError>
-    requires reached { IsReached ports.now k }
-    requires inst { slice_get (insts_of ports.now k) i ≡ Some inst.now }
-    ensures { IfOk result (λ told. shown_of told ≡ inst_rule rule ports.now model.now i inst.now) }
+    requires reached { IsReached ports.now site.model }
+    requires inst { slice_get (insts_of ports.now site.model) site.inst ≡ Some inst.now }
+    ensures { IfOk result (λ told. shown_of told ≡ inst_rule rule ports.now model.now site.inst inst.now) }
 {
-    match find_formal(alloc, ports, rule, k, i, inst)? {
-        Some(formal) => Ok(Some(tell_formal(rule, model.name.as_slice(), i, formal))),
+    match find_formal(alloc, ports, rule, site.model, site.inst, inst)? {
+        Some(formal) => Ok(Some(tell_formal(rule, model.name.as_slice(), site.inst, formal))),
         None => Ok(None),
     }
 }

@@ -1,11 +1,10 @@
 //! A guess of the ratio of a graph, of a closed walk that has it, and of the lags.
 
 use crate::fans::{Direction, fans_of};
-use crate::groups::Groups;
 use crate::lags::{Settling, heap_by_values, lags_of, settle};
 use crate::policy::{Cycle, first_choices, least_cycle};
 use crate::tables::{edge_at, get};
-use crate::values::{Policy, Search, evaluate, improve, new_search};
+use crate::values::{Policy, Search, Ways, evaluate, improve, new_search};
 use lid_base::Items;
 use lid_graph::Graph;
 use std::alloc::{AllocError, Global};
@@ -44,22 +43,15 @@ pub(crate) fn clear(marks: &mut [u32]) {
 }
 
 /// Evaluates and improves the policy until no value falls. Answers its closed walk of least ratio.
-fn iterate(
-    policy: &mut Policy,
-    search: &mut Search,
-    marks: &mut [u32],
-    fans: &Groups,
-    graph: &Graph,
-) -> Cycle {
-    let edges = graph.edges.as_slice();
-    let mut cycle = least_cycle(marks, edges, &policy.choices);
+fn iterate(policy: &mut Policy, search: &mut Search, marks: &mut [u32], ways: Ways<'_>) -> Cycle {
+    let mut cycle = least_cycle(marks, ways.edges, &policy.choices);
     for _ in 0..MOST_ROUNDS {
-        evaluate(search, policy, fans, edges, cycle);
-        if !improve(search, policy, fans, edges, cycle) {
+        evaluate(search, policy, ways, cycle);
+        if !improve(search, policy, ways, cycle) {
             return cycle;
         }
         clear(marks);
-        cycle = least_cycle(marks, edges, &policy.choices);
+        cycle = least_cycle(marks, ways.edges, &policy.choices);
     }
     cycle
 }
@@ -69,7 +61,11 @@ fn improved(alloc: Global, policy: &mut Policy, graph: &Graph) -> Result<(Cycle,
     let fans = fans_of(alloc, graph, Direction::In)?;
     let mut search = new_search(alloc, graph)?;
     let mut marks = Vec::from_elem(alloc, 0, graph.nodes as usize)?;
-    let cycle = iterate(policy, &mut search, &mut marks, &fans, graph);
+    let ways = Ways {
+        edges: graph.edges.as_slice(),
+        fans: &fans,
+    };
+    let cycle = iterate(policy, &mut search, &mut marks, ways);
     Ok((cycle, search.round))
 }
 

@@ -1,12 +1,11 @@
 //! A guess of labels that meet the rule for lags at a ratio, or of a closed walk of lower ratio.
 
 use crate::fans::{Direction, fans_of};
-use crate::groups::Groups;
 use crate::guess::{MOST_ROUNDS, Plan, clear, first_policy, walk_of};
 use crate::policy::{Cycle, STOP, least_cycle};
 use crate::queue::{Aim, new_queue, raise_all};
 use crate::tables::{get, put};
-use crate::values::{Policy, Search, evaluate, improve, new_search};
+use crate::values::{Policy, Search, Ways, evaluate, improve, new_search};
 use lid_base::Items;
 use lid_graph::Graph;
 use std::alloc::{AllocError, Global};
@@ -51,23 +50,21 @@ fn improve_at(
     policy: &mut Policy,
     search: &mut Search,
     marks: &mut [u32],
-    fans: &Groups,
-    graph: &Graph,
+    ways: Ways<'_>,
     aim: Aim,
 ) -> Cycle {
-    let edges = graph.edges.as_slice();
     let ratio = Cycle {
         start: u32::MAX,
         tokens: aim.p,
         edges: aim.q,
     };
     for _ in 0..MOST_ROUNDS {
-        evaluate(search, policy, fans, edges, ratio);
-        if !improve(search, policy, fans, edges, ratio) {
+        evaluate(search, policy, ways, ratio);
+        if !improve(search, policy, ways, ratio) {
             return no_cycle();
         }
         clear(marks);
-        let cycle = least_cycle(marks, edges, &policy.choices);
+        let cycle = least_cycle(marks, ways.edges, &policy.choices);
         if cycle.edges != 0 {
             return cycle;
         }
@@ -85,7 +82,11 @@ fn settle_at(
     let fans = fans_of(alloc, graph, Direction::In)?;
     let mut search = new_search(alloc, graph)?;
     let mut marks = Vec::from_elem(alloc, 0, graph.nodes as usize)?;
-    let cycle = improve_at(policy, &mut search, &mut marks, &fans, graph, aim);
+    let ways = Ways {
+        edges: graph.edges.as_slice(),
+        fans: &fans,
+    };
+    let cycle = improve_at(policy, &mut search, &mut marks, ways, aim);
     Ok((cycle, search.round))
 }
 

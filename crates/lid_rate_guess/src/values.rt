@@ -32,6 +32,13 @@ pub(crate) struct Search {
     waiting: Queue,
 }
 
+/// The edges of a graph, and for each transition the numbers of those that lead into it.
+#[derive(Clone, Copy)]
+pub(crate) struct Ways<'g> {
+    pub(crate) edges: &'g [Edge],
+    pub(crate) fans: &'g Groups,
+}
+
 /// What an edge costs.
 pub(crate) fn cost(edge: Edge, cycle: Cycle) -> u64 {
     u64::from(edge.tokens)
@@ -84,14 +91,13 @@ fn is_way_back(search: &Search, policy: &Policy, k: u32, edge: Edge, any: bool) 
 fn step_back(
     search: &mut Search,
     policy: &mut Policy,
-    fans: &Groups,
-    edges: &[Edge],
+    ways: Ways<'_>,
     cycle: Cycle,
     v: u32,
     any: bool,
 ) {
-    for k in fans.at(v) {
-        let edge = edge_at(edges, *k);
+    for k in ways.fans.at(v) {
+        let edge = edge_at(ways.edges, *k);
         if is_way_back(search, policy, *k, edge, any) {
             let value = value_along(policy, edge, cycle);
             choose(policy, *k, edge, value);
@@ -101,21 +107,14 @@ fn step_back(
 }
 
 /// Goes back from each transition that was seen.
-fn search_back(
-    search: &mut Search,
-    policy: &mut Policy,
-    fans: &Groups,
-    edges: &[Edge],
-    cycle: Cycle,
-    any: bool,
-) {
+fn search_back(search: &mut Search, policy: &mut Policy, ways: Ways<'_>, cycle: Cycle, any: bool) {
     let mut place: u32 = 0;
     for _ in 0..policy.choices.len() {
         if place >= search.count {
             return;
         }
         let v = get(&search.order, place, 0);
-        step_back(search, policy, fans, edges, cycle, v, any);
+        step_back(search, policy, ways, cycle, v, any);
         place = place.wrapping_add(1);
     }
 }
@@ -147,13 +146,7 @@ fn see_stops(search: &mut Search, policy: &mut Policy) {
 }
 
 /// Gives each transition its value. Where the choices do not lead to the closed walk they are changed.
-pub(crate) fn evaluate(
-    search: &mut Search,
-    policy: &mut Policy,
-    fans: &Groups,
-    edges: &[Edge],
-    cycle: Cycle,
-) {
+pub(crate) fn evaluate(search: &mut Search, policy: &mut Policy, ways: Ways<'_>, cycle: Cycle) {
     search.round = search.round.wrapping_add(1);
     search.count = 0;
     if (cycle.start as usize) < policy.choices.len() {
@@ -161,9 +154,9 @@ pub(crate) fn evaluate(
         see(search, cycle.start);
     }
     see_stops(search, policy);
-    search_back(search, policy, fans, edges, cycle, false);
+    search_back(search, policy, ways, cycle, false);
     if (search.count as usize) < policy.choices.len() {
-        search_back(search, policy, fans, edges, cycle, true);
+        search_back(search, policy, ways, cycle, true);
     }
     if (search.count as usize) < policy.choices.len() {
         stop_unseen(search, policy);
@@ -175,14 +168,13 @@ pub(crate) fn evaluate(
 fn improve_into(
     policy: &mut Policy,
     waiting: &mut Queue,
-    fans: &Groups,
-    edges: &[Edge],
+    ways: Ways<'_>,
     cycle: Cycle,
     v: u32,
 ) -> bool {
     let mut lowered = false;
-    for k in fans.at(v) {
-        let edge = edge_at(edges, *k);
+    for k in ways.fans.at(v) {
+        let edge = edge_at(ways.edges, *k);
         let value = value_along(policy, edge, cycle);
         if value < get(&policy.values, edge.from, 0) {
             choose(policy, *k, edge, value);
@@ -200,8 +192,7 @@ fn improve_into(
 pub(crate) fn improve(
     search: &mut Search,
     policy: &mut Policy,
-    fans: &Groups,
-    edges: &[Edge],
+    ways: Ways<'_>,
     cycle: Cycle,
 ) -> bool {
     for v in search.order.as_slice() {
@@ -213,7 +204,7 @@ pub(crate) fn improve(
             let Some(v) = take(&mut search.waiting) else {
                 return lowered;
             };
-            if improve_into(policy, &mut search.waiting, fans, edges, cycle, v) {
+            if improve_into(policy, &mut search.waiting, ways, cycle, v) {
                 lowered = true;
             }
         }

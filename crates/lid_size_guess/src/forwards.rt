@@ -173,6 +173,14 @@ fn number_of(stations: u32, parts: &Parts, label: u32, k: u32) -> u32 {
     }
 }
 
+/// What was guessed so far, as `Forwards` has it.
+#[derive(Drop)]
+struct Guessed {
+    walks: Vec<u32>,
+    ends: Vec<u32>,
+    labels: Vec<u64>,
+}
+
 /// Guesses the walk and the labels of one component.
 fn guess_part(
     alloc: Global,
@@ -180,15 +188,19 @@ fn guess_part(
     stations: u32,
     parts: &Parts,
     label: u32,
-    walks: &mut Vec<u32>,
-    labels: &mut [u64],
+    into: &mut Guessed,
 ) -> Result<(), AllocError> {
     let part = part_graph(alloc, graph, parts, label)?;
     let guess = propose(alloc, &part)?;
     for k in guess.walk.as_slice() {
-        walks.push(number_of(stations, parts, label, *k))?;
+        into.walks.push(number_of(stations, parts, label, *k))?;
     }
-    put_each(labels, parts.nodes.at(label), guess.lags.as_slice(), 0);
+    put_each(
+        &mut into.labels,
+        parts.nodes.at(label),
+        guess.lags.as_slice(),
+        0,
+    );
     Ok(())
 }
 
@@ -198,15 +210,14 @@ fn guess_parts(
     graph: &Graph,
     stations: u32,
     parts: &Parts,
-    walks: &mut Vec<u32>,
-    ends: &mut Vec<u32>,
-    labels: &mut [u64],
+    into: &mut Guessed,
 ) -> Result<(), AllocError> {
     for v in 0..graph.nodes {
         if parts.nodes.at(v).len() > 0 {
-            guess_part(alloc, graph, stations, parts, v, walks, labels)?;
+            guess_part(alloc, graph, stations, parts, v, into)?;
         }
-        ends.push(u32::try_from(walks.len()).unwrap_or(0))?;
+        into.ends
+            .push(u32::try_from(into.walks.len()).unwrap_or(0))?;
     }
     Ok(())
 }
@@ -223,18 +234,17 @@ pub fn propose_forwards(
     least: &[u32],
 ) -> Result<Forwards, AllocError> {
     let parts = parts_of(alloc, graph, stations, least)?;
-    let mut walks = Vec::new(alloc);
-    let mut ends = Vec::new(alloc);
-    let mut labels = Vec::from_elem(alloc, 0, graph.nodes as usize)?;
-    guess_parts(
-        alloc,
-        graph,
-        stations,
-        &parts,
-        &mut walks,
-        &mut ends,
-        &mut labels,
-    )?;
+    let mut guessed = Guessed {
+        walks: Vec::new(alloc),
+        ends: Vec::new(alloc),
+        labels: Vec::from_elem(alloc, 0, graph.nodes as usize)?,
+    };
+    guess_parts(alloc, graph, stations, &parts, &mut guessed)?;
+    let Guessed {
+        walks,
+        ends,
+        labels,
+    } = guessed;
     Ok(Forwards {
         walks: Items::from_vec(walks),
         ends: Items::from_vec(ends),
