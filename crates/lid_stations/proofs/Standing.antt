@@ -1,10 +1,11 @@
 -- A station at a place of a channel, of which the first has a number.
-use Rattle.std.proofs.Common.{◌≡◌, ℕ, ◌+◌, ◌-◌, ◌<◌, ◌≤◌, List, length, take, get_or, ◌∙◌, ap, arith}
+use Rattle.std.proofs.Common.{◌≡◌, ℕ, ◌+◌, ◌-◌, ◌<◌, ◌≤◌, List, length, take, get_or, ◌∙◌, ap, sym, subst, arith}
 use Rattle.std.proofs.lemmas.List.{get_or_default}
 use Rattle.lid_system.specs.declared.System.{System}
 use Rattle.lid_system.specs.Systems.{IsWellFormed}
 use Rattle.lid_stations.specs.declared.placement.Placement.{Placement}
 use Rattle.lid_stations.specs.Placements.{links_of, station_count, Fits}
+use Rattle.lid_stations.specs.Placed.{Placing, IsPlaced}
 use Rattle.lid_stations.specs.Stations.{Spot, fills, drains, filler, drainer, capacity, IsPlace}
 use Rattle.lid_stations.proofs.Spots.{spot_is, first_station, station_at_spot, few_movers, few_stations, cap_range}
 
@@ -20,6 +21,12 @@ pub on : (s : System) (p : Placement) (c start place : ℕ) (relays : List ℕ) 
 on s p c start place relays well fits there first is less =
     let same : get_or relays c 0 ≡ get_or p.relays c 0 = ap (λ (ks : List ℕ). get_or ks c 0) is in
     record { system = well; fits = fits; there = there; first = first; within = omega arith }
+
+-- so it does where the loop has opened a placed system
+pub on_opened : (s : System) (p : Placement) (v : Placing) (c start place : ℕ) (relays : List ℕ) → record { system = s; placement = p } ≡ v → IsPlaced s p → c < length v.placement.relays → start ≡ station_count (take c v.placement.relays) → relays ≡ p.relays → place < get_or relays c 0 + 1 → IsOn s p c start place
+on_opened s p v c start place relays at placed there first is less =
+    on s p c start place relays placed.formed placed.fits
+    (subst (λ (w : Placing). c < length w.placement.relays) (sym at) there) (subst (λ (w : Placing). start ≡ station_count (take c w.placement.relays)) (sym at) first) is less
 
 -- there are few movers up to a place
 pub few_up_to : (s : System) (p : Placement) (c place start : ℕ) → IsPlace s p c place start → start + place ≤ 69634

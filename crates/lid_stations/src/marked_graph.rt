@@ -8,10 +8,12 @@ ghost use Rattle.lid_graph.specs.Rateable.{IsRateable};
 ghost use Rattle.lid_graph.specs.Walks.{WalksHaveTokens};
 ghost use Rattle.lid_system.specs.Systems.{IsWellFormed};
 ghost use Rattle.lid_stations.specs.Placements.{links_of, Fits, station_count};
+ghost use Rattle.lid_stations.specs.Placed.{links_in};
 ghost use Rattle.lid_stations.specs.Stations.{actor_count, starts};
 ghost use Rattle.lid_stations.specs.Markings.{marking, station_edges, self_edge};
 
 use crate::ends::{drainer, filler};
+use crate::placed::Placed;
 use crate::placement::Placement;
 use lid_base::Items;
 use lid_graph::{Edge, Graph};
@@ -33,9 +35,10 @@ pub fn marking(alloc: Global, system: &System, placement: &Placement) -> Result<
     ensures tokens { IfOk result WalksHaveTokens }
     ensures few { IfOk result (λ g. g.nodes ≤ 69634) }
 {
-    let nodes = actors(system, placement);
+    let placed = Placed { system, placement };
+    let nodes = actors(&placed);
     let mut edges = Vec::new(alloc);
-    push_stations(system, placement, &mut edges)?;
+    push_stations(&placed, &mut edges)?;
     push_self_edges(nodes, &mut edges)?;
     Ok(Graph {
         nodes,
@@ -44,57 +47,48 @@ pub fn marking(alloc: Global, system: &System, placement: &Placement) -> Result<
 }
 
 /// How many actors there are: all nodes, and a mover for each station but the last of each channel.
-fn actors(system: &System, placement: &Placement) -> u32
-    requires system { IsWellFormed system.now }
-    requires fits { Fits system.now placement.now }
-    ensures { result ≡ actor_count (links_of system.now) placement.now }
+fn actors(placed: &Placed<'_>) -> u32
+    ensures { result ≡ actor_count (links_in placed.now) placed.now.placement }
 {
-    (system.nodes.len() + (placement.caps.len() - placement.relays.len())) as u32
+    let movers = placed.placement.caps.len() - placed.placement.relays.len();
+    (placed.system.nodes.len() + movers) as u32
 }
 
 /// Appends the edges of all stations.
-fn push_stations(
-    system: &System,
-    placement: &Placement,
-    edges: &mut Vec<Edge>,
-) -> Result<(), AllocError>
-    requires system { IsWellFormed system.now }
-    requires fits { Fits system.now placement.now }
+fn push_stations(placed: &Placed<'_>, edges: &mut Vec<Edge>) -> Result<(), AllocError>
     ensures { OnOk result (edges.new.items ≡ edges.old.items
-        ++ flat_map (station_edges (links_of system.now) placement.now) (from_each (λ station. station) 0 (station_count placement.now.relays))) }
+        ++ flat_map (station_edges (links_in placed.now) placed.now.placement)
+        (from_each (λ station. station) 0 (station_count placed.now.placement.relays))) }
 {
     let mut station = 0usize;
-    for c in 0..placement.relays.len() {
-        push_channel(system, placement, c, station, edges)?;
-        station += placement.relays.as_slice()[c] as usize + 1;
+    for c in 0..placed.placement.relays.len() {
+        push_channel(placed, c, station, edges)?;
+        station += placed.placement.relays.as_slice()[c] as usize + 1;
     }
     Ok(())
 }
 
 /// Appends the edges of the stations of channel c, of which the first has this number.
 fn push_channel(
-    system: &System,
-    placement: &Placement,
+    placed: &Placed<'_>,
     c: usize,
     station: usize,
     edges: &mut Vec<Edge>,
 ) -> Result<(), AllocError>
-    requires system { IsWellFormed system.now }
-    requires fits { Fits system.now placement.now }
-    requires there { c < length placement.now.relays }
-    requires first { station ≡ station_count (take c placement.now.relays) }
+    requires there { c < length placed.now.placement.relays }
+    requires first { station ≡ station_count (take c placed.now.placement.relays) }
     ensures { OnOk result (edges.new.items ≡ edges.old.items
-        ++ flat_map (station_edges (links_of system.now) placement.now)
-        (from_each (λ station. station) station (slice_index_or placement.now.relays c 0 + 1))) }
+        ++ flat_map (station_edges (links_in placed.now) placed.now.placement)
+        (from_each (λ station. station) station (slice_index_or placed.now.placement.relays c 0 + 1))) }
 {
-    let first = (system.nodes.len() + (station - c)) as u32;
-    for place in 0..placement.relays.as_slice()[c] + 1 {
+    let first = (placed.system.nodes.len() + (station - c)) as u32;
+    for place in 0..placed.placement.relays.as_slice()[c] + 1 {
         push_station(
             edges,
-            filler(system, placement, c, place, first),
-            drainer(system, placement, c, place, first),
+            filler(placed.system, placed.placement, c, place, first),
+            drainer(placed.system, placed.placement, c, place, first),
             start_count(place),
-            placement.caps.as_slice()[station + place as usize],
+            placed.placement.caps.as_slice()[station + place as usize],
         )?;
     }
     Ok(())

@@ -1,6 +1,5 @@
 -- What a run shows, by how it ended.
 use Rattle.std.proofs.Common.{◌≡◌, ℕ, ◌≤◌, Bool, true, false, List, [], Option, Some, None, Result, Ok, Err, OnOk, IfErr, IfSome, is_some, true≢false, inl, inr, refl, sym, ap, subst, arith}
-use Rattle.lid_base.specs.declared.outside.Fetch.{Fetch}
 use Rattle.lid_base.specs.Outside.{Rose}
 use Rattle.lid_top_words.specs.declared.job.Job.{Job}
 use Rattle.lid_top_script.specs.declared.fault.Stop.TheVariants.{Refused, Read, Memory, Denied}
@@ -14,7 +13,7 @@ use Rattle.lid_top_script.specs.Fetches.{between, FetchesJob}
 use Rattle.lid_base_io.proofs.Came.{none_came}
 use Rattle.lid_top_script.proofs.Going.{goes_wanting}
 use Rattle.lid_top_refusals.specs.Saying.{Says}
-use Rattle.lid_top_script.specs.Statuses.{Writes, WritesPrefix, TellsAll, Leaves, writes_early, JobRun, Run}
+use Rattle.lid_top_script.specs.Statuses.{Writes, WritesPrefix, TellsAll, Leaves, writes_early, ShelfView, SinkView, JobRun, Run}
 
 is_some_job : {job : Job} → Some job ≡ None → ⊥
 is_some_job e = true≢false (ap is_some e)
@@ -54,13 +53,13 @@ denied_told (Stopped Memory) e = absurd (omega (arith, e))
 denied_told (Stopped Denied) e = refl
 denied_told Unwritten e = absurd (omega (arith, e))
 
-module _ {S O E : Type 0} (shelf_whole : Bool) (held : S → List ℕ → Option (List ℕ)) (fetches : S → Option (List Fetch)) (reads : S → List ℕ → ℕ) (written : O → Option (List ℕ)) (pieces : O → Option (List (List ℕ))) (writes : O → ℕ) (said : E → Option (List ℕ)) (parts : E → Option (List (List ℕ))) (errs : E → ℕ) where
+module _ {S O E : Type 0} (files : ShelfView S) (sink : SinkView O) (errs : SinkView E) where
   -- the fetches of a job
   abbrev Fetched : Job → S → S → ℕ → Type 0
-  Fetched job s t status = FetchesJob shelf_whole (held s) (script_of job) (fetches s) (fetches t) (reads s) (reads t) status
+  Fetched job s t status = FetchesJob files.whole (files.held s) (script_of job) (files.fetches s) (files.fetches t) (files.faults s) (files.faults t) status
 
   -- memory was wanting before the words were read
-  pub run_unread : (asked : Option Job) (s : S) (o : O) (e f : E) → Says said parts errs e f memory_line → Run asked shelf_whole held fetches reads s s written pieces writes o o said parts errs e f 5
+  pub run_unread : (asked : Option Job) (s : S) (o : O) (e f : E) → Says errs.written errs.pieces errs.faults e f memory_line → Run asked files s s sink o o errs e f 5
   run_unread asked s o e f says = record {
     most = omega arith;
     usage = λ two. absurd (omega (arith, two));
@@ -74,11 +73,11 @@ module _ {S O E : Type 0} (shelf_whole : Bool) (held : S → List ℕ → Option
     says_denied = λ six. absurd (omega (arith, six));
   }
     where
-      leaves : (early : Bool) (job : Job) → Leaves early (held s) (script_of job) written pieces o o
+      leaves : (early : Bool) (job : Job) → Leaves early (files.held s) (script_of job) sink.written sink.pieces o o
       leaves false job = refl
       leaves true job = inl refl
 
-      by : (a : Option Job) → IfSome a (λ job. JobRun job shelf_whole held fetches reads s s written pieces writes o o (Says said parts errs e f) 5)
+      by : (a : Option Job) → IfSome a (λ job. JobRun job files s s sink o o (Says errs.written errs.pieces errs.faults e f) 5)
       by None = tt
       by (Some job) = record {
         done = λ zero. absurd (omega (arith, zero));
@@ -90,13 +89,13 @@ module _ {S O E : Type 0} (shelf_whole : Bool) (held : S → List ℕ → Option
         unwritten = λ one. absurd (omega (arith, one));
         complete = λ _ _. inl refl;
         fetched = record {
-          came = ([], none_came (fetches s), record { halt = between; goes = goes_wanting shelf_whole (held s) (script_of job) Memory tt; halts = refl });
+          came = ([], none_came (files.fetches s), record { halt = between; goes = goes_wanting files.whole (files.held s) (script_of job) Memory tt; halts = refl });
           still = λ _ q. refl;
         };
       }
 
   -- the output of the job is whole
-  pub run_of_whole : (job : Job) (s t : S) (o p : O) (e : E) → Writes (held s) (script_of job) written pieces o p → Fetched job s t 0 → held t ≡ held s → Run (Some job) shelf_whole held fetches reads s t written pieces writes o p said parts errs e e 0
+  pub run_of_whole : (job : Job) (s t : S) (o p : O) (e : E) → Writes (files.held s) (script_of job) sink.written sink.pieces o p → Fetched job s t 0 → files.held t ≡ files.held s → Run (Some job) files s t sink o p errs e e 0
   run_of_whole job s t o p e w went kept = record {
     most = omega arith;
     usage = λ two. absurd (omega (arith, two));
@@ -122,9 +121,9 @@ module _ {S O E : Type 0} (shelf_whole : Bool) (held : S → List ℕ → Option
 
   -- what a run shows whose output is not whole
   module _ (job : Job) (s t : S) (o p : O) (e f : E) where
-    job_stopped : (end : JobEnd) → IsJobEnd (held s) (script_of job) (reads s) (reads t) (Rose (writes o) (writes p) × WritesPrefix (held s) (script_of job) written pieces o p) end
-        → (IsStoppedJob end → Leaves (writes_early job) (held s) (script_of job) written pieces o p) → (IsRefusedJob end → TellsAll (held s) (script_of job) → p ≡ o)
-        → Fetched job s t (end_status end) → Says said parts errs e f (end_line end) → JobRun job shelf_whole held fetches reads s t written pieces writes o p (Says said parts errs e f) (end_status end)
+    job_stopped : (end : JobEnd) → IsJobEnd (files.held s) (script_of job) (files.faults s) (files.faults t) (Rose (sink.faults o) (sink.faults p) × WritesPrefix (files.held s) (script_of job) sink.written sink.pieces o p) end
+        → (IsStoppedJob end → Leaves (writes_early job) (files.held s) (script_of job) sink.written sink.pieces o p) → (IsRefusedJob end → TellsAll (files.held s) (script_of job) → p ≡ o)
+        → Fetched job s t (end_status end) → Says errs.written errs.pieces errs.faults e f (end_line end) → JobRun job files s t sink o p (Says errs.written errs.pieces errs.faults e f) (end_status end)
     job_stopped (Stopped (Refused refusal)) cause left unwritten went says = record {
       done = λ zero. absurd (omega (arith, zero));
       refused = λ one. record { line = refusal_line refusal; ends = cause; said = says };
@@ -181,9 +180,9 @@ module _ {S O E : Type 0} (shelf_whole : Bool) (held : S → List ℕ → Option
       fetched = went;
     }
 
-    pub run_of_end : (end : JobEnd) → IsJobEnd (held s) (script_of job) (reads s) (reads t) (Rose (writes o) (writes p) × WritesPrefix (held s) (script_of job) written pieces o p) end
-        → (IsStoppedJob end → Leaves (writes_early job) (held s) (script_of job) written pieces o p) → (IsRefusedJob end → TellsAll (held s) (script_of job) → p ≡ o)
-        → Fetched job s t (end_status end) → held t ≡ held s → Says said parts errs e f (end_line end) → Run (Some job) shelf_whole held fetches reads s t written pieces writes o p said parts errs e f (end_status end)
+    pub run_of_end : (end : JobEnd) → IsJobEnd (files.held s) (script_of job) (files.faults s) (files.faults t) (Rose (sink.faults o) (sink.faults p) × WritesPrefix (files.held s) (script_of job) sink.written sink.pieces o p) end
+        → (IsStoppedJob end → Leaves (writes_early job) (files.held s) (script_of job) sink.written sink.pieces o p) → (IsRefusedJob end → TellsAll (files.held s) (script_of job) → p ≡ o)
+        → Fetched job s t (end_status end) → files.held t ≡ files.held s → Says errs.written errs.pieces errs.faults e f (end_line end) → Run (Some job) files s t sink o p errs e f (end_status end)
     run_of_end end cause left unwritten went kept says = record {
       most = (end_statuses end).most;
       usage = λ two. absurd ((end_statuses end).job two);
@@ -192,19 +191,19 @@ module _ {S O E : Type 0} (shelf_whole : Bool) (held : S → List ℕ → Option
       kept = kept;
       quiet = λ zero. absurd (let some = (end_statuses end).some in omega (arith, some, zero));
       says_usage = λ two. absurd ((end_statuses end).job two);
-      says_write = λ four. subst (Says said parts errs e f) (write_told end four) says;
-      says_memory = λ five. subst (Says said parts errs e f) (memory_told end five) says;
-      says_denied = λ six. subst (Says said parts errs e f) (denied_told end six) says;
+      says_write = λ four. subst (Says errs.written errs.pieces errs.faults e f) (write_told end four) says;
+      says_memory = λ five. subst (Says errs.written errs.pieces errs.faults e f) (memory_told end five) says;
+      says_denied = λ six. subst (Says errs.written errs.pieces errs.faults e f) (denied_told end six) says;
     }
 
     -- what the run of a job shows by its result
-    pub run_of_result : (result : Result (Unit {0}) JobEnd) (status : ℕ) → OnOk result (Writes (held s) (script_of job) written pieces o p)
-        → IfErr result (IsJobEnd (held s) (script_of job) (reads s) (reads t) (Rose (writes o) (writes p) × WritesPrefix (held s) (script_of job) written pieces o p))
-        → IfErr result (λ end. IsStoppedJob end → Leaves (writes_early job) (held s) (script_of job) written pieces o p)
-        → IfErr result (λ end. IsRefusedJob end → TellsAll (held s) (script_of job) → p ≡ o) → Fetched job s t (job_status result) → held t ≡ held s
-        → OnOk result ((status ≡ 0) × (f ≡ e)) → IfErr result (λ end. (status ≡ end_status end) × Says said parts errs e f (end_line end)) → Run (Some job) shelf_whole held fetches reads s t written pieces writes o p said parts errs e f status
+    pub run_of_result : (result : Result (Unit {0}) JobEnd) (status : ℕ) → OnOk result (Writes (files.held s) (script_of job) sink.written sink.pieces o p)
+        → IfErr result (IsJobEnd (files.held s) (script_of job) (files.faults s) (files.faults t) (Rose (sink.faults o) (sink.faults p) × WritesPrefix (files.held s) (script_of job) sink.written sink.pieces o p))
+        → IfErr result (λ end. IsStoppedJob end → Leaves (writes_early job) (files.held s) (script_of job) sink.written sink.pieces o p)
+        → IfErr result (λ end. IsRefusedJob end → TellsAll (files.held s) (script_of job) → p ≡ o) → Fetched job s t (job_status result) → files.held t ≡ files.held s
+        → OnOk result ((status ≡ 0) × (f ≡ e)) → IfErr result (λ end. (status ≡ end_status end) × Says errs.written errs.pieces errs.faults e f (end_line end)) → Run (Some job) files s t sink o p errs e f status
     run_of_result (Ok done) status whole_text cause left unwritten went kept whole stopped =
-        let of_err : E → Type 0 = λ x. Run (Some job) shelf_whole held fetches reads s t written pieces writes o p said parts errs e x status in
-        subst of_err (sym whole.1) (subst (λ n. Run (Some job) shelf_whole held fetches reads s t written pieces writes o p said parts errs e e n) (sym whole.0) (run_of_whole job s t o p e whole_text went kept))
+        let of_err : E → Type 0 = λ x. Run (Some job) files s t sink o p errs e x status in
+        subst of_err (sym whole.1) (subst (λ n. Run (Some job) files s t sink o p errs e e n) (sym whole.0) (run_of_whole job s t o p e whole_text went kept))
     run_of_result (Err end) status whole_text cause left unwritten went kept whole stopped =
-        subst (λ n. Run (Some job) shelf_whole held fetches reads s t written pieces writes o p said parts errs e f n) (sym stopped.0) (run_of_end end cause left unwritten went kept stopped.1)
+        subst (λ n. Run (Some job) files s t sink o p errs e f n) (sym stopped.0) (run_of_end end cause left unwritten went kept stopped.1)

@@ -5,7 +5,7 @@ ghost use Rattle.std.specs.Process.{exit_status};
 ghost use Rattle.lid_top_words.specs.Jobs.{job_of};
 ghost use Rattle.lid_top_refusals.specs.Faults.{usage_line, memory_line};
 ghost use Rattle.lid_top_refusals.specs.Saying.{Says};
-ghost use Rattle.lid_top_script.specs.Statuses.{Run};
+ghost use Rattle.lid_top_script.specs.Statuses.{shelf_view, sink_view, Run};
 ghost use Rattle.lid_top.specs.Wordless.{IsStatusWithout};
 
 use crate::top::lid_run;
@@ -45,10 +45,10 @@ where
     S: Shelf,
     O: Sink,
     E: Sink,
-    ensures ran { IfOk words (λ words. Run (job_of words.items) S.whole S.held S.fetches S.faults shelf.old shelf.new
-        O.written O.pieces O.faults out.old out.new E.written E.pieces E.faults err.old err.new (exit_status result)) }
-    ensures wordless { IfErr words (λ cause. Run None S.whole S.held S.fetches S.faults shelf.old shelf.new
-        O.written O.pieces O.faults out.old out.new E.written E.pieces E.faults err.old err.new (exit_status result)) }
+    ensures ran { IfOk words (λ words. Run (job_of words.items) (shelf_view S.whole S.held S.fetches S.faults) shelf.old shelf.new
+        (sink_view O.written O.pieces O.faults) out.old out.new (sink_view E.written E.pieces E.faults) err.old err.new (exit_status result)) }
+    ensures wordless { IfErr words (λ cause. Run None (shelf_view S.whole S.held S.fetches S.faults) shelf.old shelf.new
+        (sink_view O.written O.pieces O.faults) out.old out.new (sink_view E.written E.pieces E.faults) err.old err.new (exit_status result)) }
     ensures told_apart { IfErr words (λ cause. IsStatusWithout cause (exit_status result)) }
 {
     let status = match words {

@@ -4,7 +4,7 @@ ghost use Rattle.std.specs.Prelude.{◌≡◌, OnOk, IfErr};
 ghost use Rattle.lid_top_words.specs.Jobs.{job_of};
 ghost use Rattle.lid_top_script.specs.Causes.{end_status, end_line};
 ghost use Rattle.lid_top_refusals.specs.Saying.{Says};
-ghost use Rattle.lid_top_script.specs.Statuses.{Run};
+ghost use Rattle.lid_top_script.specs.Statuses.{shelf_view, sink_view, Run};
 
 use crate::job::run_job;
 use crate::saying::say_end;
@@ -42,8 +42,8 @@ where
     O: Sink,
     E: Sink,
     G: Gate,
-    ensures { Run (job_of words.now) S.whole S.held S.fetches S.faults shelf.old shelf.new
-        O.written O.pieces O.faults out.old out.new E.written E.pieces E.faults err.old err.new result }
+    ensures { Run (job_of words.now) (shelf_view S.whole S.held S.fetches S.faults) shelf.old shelf.new
+        (sink_view O.written O.pieces O.faults) out.old out.new (sink_view E.written E.pieces E.faults) err.old err.new result }
 {
     match read_words(rt.alloc(), words) {
         Ok(Some(job)) => status_of(err, run_job(rt, &job, shelf, out, gate)),

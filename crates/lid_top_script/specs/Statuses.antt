@@ -90,52 +90,65 @@ abbrev pub Leaves : {O : Type 0} → Bool → (List ℕ → Option (List ℕ)) �
 Leaves false held script written pieces old new = new ≡ old
 Leaves true held script written pieces old new = (new ≡ old) ⊎ WritesPrefix held script written pieces old new
 
--- what the run of a job shows. `Said` tells of each line whether it was said on the standard error;
--- shelves are seen by what they hold, by their fetches and by their counts, the output by what was written, by the
--- pieces of its writes and by its count
-pub record JobRun {S O : Type 0} (job : Job)
-    (whole : Bool) (held : S → List ℕ → Option (List ℕ)) (fetches : S → Option (List Fetch)) (reads : S → List ℕ → ℕ) (shelf shelf_after : S)
-    (written : O → Option (List ℕ)) (pieces : O → Option (List (List ℕ))) (writes : O → ℕ) (out out_after : O)
+-- how shelves are seen: whether each fetch gives as many bytes as there is room for or as are left, what names hold,
+-- the fetches so far, and a count for each name that rises where a fetch fails
+pub record ShelfView (S : Type 0) : Type 0 where
+  pub whole : Bool
+  pub held : S → List ℕ → Option (List ℕ)
+  pub fetches : S → Option (List Fetch)
+  pub faults : S → List ℕ → ℕ
+
+abbrev pub shelf_view : {S : Type 0} → Bool → (S → List ℕ → Option (List ℕ)) → (S → Option (List Fetch)) → (S → List ℕ → ℕ) → ShelfView S
+shelf_view whole held fetches faults = record { whole = whole; held = held; fetches = fetches; faults = faults }
+
+-- how sinks are seen: what was written, by which pieces, and a count that rises where a write fails
+pub record SinkView (O : Type 0) : Type 0 where
+  pub written : O → Option (List ℕ)
+  pub pieces : O → Option (List (List ℕ))
+  pub faults : O → ℕ
+
+abbrev pub sink_view : {O : Type 0} → (O → Option (List ℕ)) → (O → Option (List (List ℕ))) → (O → ℕ) → SinkView O
+sink_view written pieces faults = record { written = written; pieces = pieces; faults = faults }
+
+-- what the run of a job shows. `Said` tells of each line whether it was said on the standard error
+pub record JobRun {S O : Type 0} (job : Job) (files : ShelfView S) (shelf shelf_after : S) (sink : SinkView O) (out out_after : O)
     (Said : List ℕ → Type 0) (status : ℕ) : Type 0 where
   -- 0: the whole output was written, in its pieces
-  pub done : status ≡ 0 → Writes (held shelf) (script_of job) written pieces out out_after
+  pub done : status ≡ 0 → Writes (files.held shelf) (script_of job) sink.written sink.pieces out out_after
   -- 1: a reading, a check or a limit refuses
-  pub refused : status ≡ 1 → SaysRefusal (held shelf) (script_of job) Said
+  pub refused : status ≡ 1 → SaysRefusal (files.held shelf) (script_of job) Said
   -- 3: a fetch of a file failed
-  pub read : status ≡ 3 → SaysRead (held shelf) (script_of job) (reads shelf) (reads shelf_after) Said
+  pub read : status ≡ 3 → SaysRead (files.held shelf) (script_of job) (files.faults shelf) (files.faults shelf_after) Said
   -- 4: a write failed; a prefix of the output stands, and some first of its pieces were written
-  pub write : status ≡ 4 → Rose (writes out) (writes out_after) × WritesPrefix (held shelf) (script_of job) written pieces out out_after
+  pub write : status ≡ 4 → Rose (sink.faults out) (sink.faults out_after) × WritesPrefix (files.held shelf) (script_of job) sink.written sink.pieces out out_after
   -- 6: the certificate is none of the graph
-  pub denied : status ≡ 6 → EndsIn (held shelf) (script_of job) denies
+  pub denied : status ≡ 6 → EndsIn (files.held shelf) (script_of job) denies
   -- 1, 3, 5, 6: the output is as it was, but for a job that writes early
-  pub left : status ≢ 0 → status ≢ 4 → Leaves (writes_early job) (held shelf) (script_of job) written pieces out out_after
+  pub left : status ≢ 0 → status ≢ 4 → Leaves (writes_early job) (files.held shelf) (script_of job) sink.written sink.pieces out out_after
   -- 1: the output is as it was, for all jobs, where the shelf tells its contents
-  pub unwritten : status ≡ 1 → TellsAll (held shelf) (script_of job) → out_after ≡ out
+  pub unwritten : status ≡ 1 → TellsAll (files.held shelf) (script_of job) → out_after ≡ out
   -- where no count rose, the status is that of an ending of the script, or want of memory
-  pub complete : ReadsAll (held shelf) (script_of job) (reads shelf) (reads shelf_after) → ¬ Rose (writes out) (writes out_after)
-      → (status ≡ 5) ⊎ IsStatusOf (held shelf) (script_of job) status
+  pub complete : ReadsAll (files.held shelf) (script_of job) (files.faults shelf) (files.faults shelf_after) → ¬ Rose (sink.faults out) (sink.faults out_after)
+      → (status ≡ 5) ⊎ IsStatusOf (files.held shelf) (script_of job) status
   -- where the shelf tells its fetches, a job makes those of its script and no other; and no count of reads rises but at 3
-  pub fetched : FetchesJob whole (held shelf) (script_of job) (fetches shelf) (fetches shelf_after) (reads shelf) (reads shelf_after) status
+  pub fetched : FetchesJob files.whole (files.held shelf) (script_of job) (files.fetches shelf) (files.fetches shelf_after) (files.faults shelf) (files.faults shelf_after) status
 
 -- what a run shows, by the job that its words ask for
-pub record Run {S O E : Type 0} (asked : Option Job)
-    (whole : Bool) (held : S → List ℕ → Option (List ℕ)) (fetches : S → Option (List Fetch)) (reads : S → List ℕ → ℕ) (shelf shelf_after : S)
-    (written : O → Option (List ℕ)) (pieces : O → Option (List (List ℕ))) (writes : O → ℕ) (out out_after : O)
-    (said : E → Option (List ℕ)) (parts : E → Option (List (List ℕ))) (errs : E → ℕ) (err err_after : E)
-    (status : ℕ) : Type 0 where
+pub record Run {S O E : Type 0} (asked : Option Job) (files : ShelfView S) (shelf shelf_after : S)
+    (sink : SinkView O) (out out_after : O) (errs : SinkView E) (err err_after : E) (status : ℕ) : Type 0 where
   pub most : status ≤ 6
   -- 2: the words are no job
   pub usage : status ≡ 2 → asked ≡ None
   -- words that are no job: nothing is fetched and nothing written
   pub no_job : asked ≡ None → ((status ≡ 2) ⊎ (status ≡ 5)) × (shelf_after ≡ shelf) × (out_after ≡ out)
-  pub ran : IfSome asked (λ job. JobRun job whole held fetches reads shelf shelf_after written pieces writes out out_after
-      (Says said parts errs err err_after) status)
+  pub ran : IfSome asked (λ job. JobRun job files shelf shelf_after sink out out_after
+      (Says errs.written errs.pieces errs.faults err err_after) status)
   -- no fetch changes what is held
-  pub kept : held shelf_after ≡ held shelf
+  pub kept : files.held shelf_after ≡ files.held shelf
   -- 0: nothing is said
   pub quiet : status ≡ 0 → err_after ≡ err
   -- the lines that tell no file and no refusal
-  pub says_usage : status ≡ 2 → Says said parts errs err err_after usage_line
-  pub says_write : status ≡ 4 → Says said parts errs err err_after write_line
-  pub says_memory : status ≡ 5 → Says said parts errs err err_after memory_line
-  pub says_denied : status ≡ 6 → Says said parts errs err err_after denied_line
+  pub says_usage : status ≡ 2 → Says errs.written errs.pieces errs.faults err err_after usage_line
+  pub says_write : status ≡ 4 → Says errs.written errs.pieces errs.faults err err_after write_line
+  pub says_memory : status ≡ 5 → Says errs.written errs.pieces errs.faults err err_after memory_line
+  pub says_denied : status ≡ 6 → Says errs.written errs.pieces errs.faults err err_after denied_line
