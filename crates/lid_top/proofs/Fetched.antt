@@ -10,7 +10,8 @@ use Rattle.lid_top_script.specs.declared.fault.JobEnd.TheVariants.{Stopped, Unwr
 use Rattle.lid_top_script.specs.Scripts.{gives, Script, end, size_read, generating, gen_script}
 use Rattle.lid_top_script.specs.Causes.{IsStoppedJob, stop_status, end_status, job_status}
 use Rattle.lid_top_script.specs.Early.{FetchesEarly}
-use Rattle.lid_top_script.specs.Fetches.{at_end, at_write, between, halt_of, StillAt, IsStatusAt, FetchesJob, FetchesNothing}
+use Rattle.lid_top_script.specs.Fetches.{at_end, at_write, between, IsStatusAt, FetchesJob}
+use Rattle.lid_top_script.specs.FetchSteps.{halt_of, StillAt, FetchesNothing}
 use Rattle.lid_top_script.specs.Whole.{RunsBy}
 use Rattle.lid_top_script.proofs.Going.{goes_short, then_nothing}
 

@@ -13,7 +13,7 @@ use Rattle.lid_texts_feed.specs.Feeds.{IsText, AreAll, IsRefusedText, IfRead, If
 use Rattle.lid_texts_feed.specs.Feeds as feeds
 use Rattle.lid_top_script.specs.Scripts.{IsFetched, rows_limit, vec_reading}
 use Rattle.lid_top_script.specs.Causes.{Got, Misses, stop_of_rows}
-use Rattle.lid_top_script.specs.Fetches.{FetchesFile}
+use Rattle.lid_top_script.specs.FetchSteps.{FetchesFile}
 use Rattle.lid_top_script.proofs.Going.{for_any, still_any}
 use Rattle.lid_top_script.proofs.Readings.{vec_good, vec_declines}
 use Rattle.lid_top_script.proofs.Composition.{misses_reading}

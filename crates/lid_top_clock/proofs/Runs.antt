@@ -36,7 +36,8 @@ use Rattle.lid_top_script.specs.declared.fault.JobEnd.TheVariants.{Stopped, Unwr
 use Rattle.lid_top_script.specs.Outputs.{clocked}
 use Rattle.lid_top_script.specs.Clocked.{AsksFor}
 use Rattle.lid_top_script.specs.Scripts.{refuses, Rereading, Script, rows_limit, vec_reading, reread_rows, rerun_script, EndsIn, ReachesFetch}
-use Rattle.lid_top_script.specs.Fetches.{Halt, at_end, at_fetch, at_write, between, HaltsInAgain, IsRefetching, IsRefetchingPart, GoesBy, halt_of}
+use Rattle.lid_top_script.specs.Fetches.{Halt, at_end, at_fetch, at_write, between, HaltsInAgain, IsRefetching, IsRefetchingPart, GoesBy}
+use Rattle.lid_top_script.specs.FetchSteps.{halt_of}
 use Rattle.lid_top_script.specs.Causes.{Got, Declines, IsJobEnd, IsRefusedJob, stop_of_rows}
 use Rattle.lid_top_script.specs.Statuses.{HasText, Writes, WritesPrefix}
 use Rattle.lid_top_script.specs.Early.{RunsEarly, GoesToOutput, halt_by, StillBy, FetchesEarly}

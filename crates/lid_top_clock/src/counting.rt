@@ -3,7 +3,7 @@
 ghost use Rattle.std.specs.Prelude.{◌≡◌, ℕ, ◌≤◌, List, IfOk, IfErr};
 ghost use Rattle.lid_top_clock.specs.Clocking.{FileHasRows};
 ghost use Rattle.lid_top_script.specs.Causes.{Misses};
-ghost use Rattle.lid_top_script.specs.Fetches.{FetchesFile};
+ghost use Rattle.lid_top_script.specs.FetchSteps.{FetchesFile};
 ghost use Rattle.lid_top_script.specs.Scripts.{rows_limit, vec_reading};
 
 use crate::stops::feed_stop;

@@ -13,7 +13,7 @@ use Rattle.lid_top_script.specs.Causes.{stop_of_emit, IsCause}
 use Rattle.lid_top_script.specs.Outputs.{emitted}
 use Rattle.lid_top_script.specs.Scripts.{Ending, refuses, gives, end, read_then, emit_good, emit_read, wrapping_script, EndsIn}
 use Rattle.lid_top_script.specs.Statuses.{HasText}
-use Rattle.lid_top_script.specs.Fetches.{FetchesNothing}
+use Rattle.lid_top_script.specs.FetchSteps.{FetchesNothing}
 use Rattle.lid_top_script.proofs.Going.{then_nothing}
 
 module _ (held : List ℕ → Option (List ℕ)) (d : Design) (l : Links) (p : Placement) where

@@ -3,7 +3,7 @@ use Rattle.std.proofs.Common.{◌≡◌, ℕ, Bool, List, Option, Some, refl}
 use Rattle.lid_design.specs.declared.Design.{Design}
 use Rattle.lid_stations.specs.declared.placement.Placement.{Placement}
 use Rattle.lid_stations.specs.Placements.{Links}
-use Rattle.lid_top_script.specs.Fetches.{FetchesNothing}
+use Rattle.lid_top_script.specs.FetchSteps.{FetchesNothing}
 use Rattle.lid_top_script.specs.Outputs.{waved}
 use Rattle.lid_top_script.specs.Scripts.{Script, end, gives, trace_read, wrapped_step, rows_step, held_step, freeing_script, waving_script, free_script, walk_script, wave_script}
 use Rattle.lid_top_script.proofs.Going.{then_nothing}

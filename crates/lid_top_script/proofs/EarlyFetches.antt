@@ -10,7 +10,8 @@ use Rattle.lid_top_script.specs.declared.fault.JobEnd.{JobEnd}
 use Rattle.lid_top_script.specs.declared.fault.JobEnd.TheVariants.{Stopped, Unwritten}
 use Rattle.lid_top_script.specs.Scripts.{gives, Script, Reading, read_then}
 use Rattle.lid_top_script.specs.Causes.{Declines}
-use Rattle.lid_top_script.specs.Fetches.{at_end, GoesBy, halt_of, StepsBy}
+use Rattle.lid_top_script.specs.Fetches.{at_end, GoesBy}
+use Rattle.lid_top_script.specs.FetchSteps.{halt_of, StepsBy}
 use Rattle.lid_top_script.specs.Early.{halt_by, StillBy, FetchesEarly}
 use Rattle.lid_top_script.proofs.Going.{still_any, still_later, goes_wanting, goes_declined}
 use Rattle.lid_top_script.proofs.Fetched.{came_then, Made}

@@ -15,7 +15,8 @@ use Rattle.lid_top_script.specs.Outputs.{Output, IsTextOf}
 use Rattle.lid_top_script.specs.Scripts.{gives, Script, end as ended, Reading, good, read_then, read_step, net_limit, check_step, system_step, wrapped_step, stalls_step, IsChecked}
 use Rattle.lid_top_script.specs.Wrapped.{Building, Wrapping}
 use Rattle.lid_top_script.specs.Causes.{Got, GotSystem, GotWrapped, GotStalls, FailsCheck, Misses, MissesSystem, MissesWrapped, MissesStations, IsCause, IsWant}
-use Rattle.lid_top_script.specs.Fetches.{at_end, GoesBy, halt_of, StepsBy, FetchesFile, FetchesNamed, NamedCalls, NamedPart, FetchesWrapped, FetchesNothing}
+use Rattle.lid_top_script.specs.Fetches.{at_end, GoesBy}
+use Rattle.lid_top_script.specs.FetchSteps.{halt_of, StepsBy, FetchesFile, FetchesNamed, NamedCalls, NamedPart, FetchesWrapped, FetchesNothing}
 use Rattle.lid_top_script.specs.Whole.{RunsAnywhere, FetchesWhole, RunsBy}
 use Rattle.lid_top_script.proofs.Composition.{cause_here, cause_unchecked}
 use Rattle.lid_top_script.proofs.Placements.{cause_unbuilt, cause_unwrapped}

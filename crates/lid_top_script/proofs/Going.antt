@@ -14,7 +14,8 @@ use Rattle.lid_top_script.specs.declared.fault.Stop.TheVariants.{Refused, Read, 
 use Rattle.lid_top_script.specs.Scripts.{Ending, refuses, denies, Rereading, Script, fetch, again, decide, end as ended, Reading, good, read_then, read_step, net_limit, net_reading, check_step, net_step, system_step, wrapped_step, IsChecked, IsUnchecked, HasChannels, IsOverfull, links, text_limit, stations_read, placement_step, stalls_read, stalls_step, EndsIn, ReachesFetch}
 use Rattle.lid_top_script.specs.Wrapped.{Building, Wrapping}
 use Rattle.lid_top_script.specs.Causes.{Got, GotSystem, GotPlacement, GotWrapped, GotStalls, Refuses, Declines, HasTooMany, FailsCheck, Misses, MissesSystem, MissesPlacement, MissesStalls, IsCause, IsWant}
-use Rattle.lid_top_script.specs.Fetches.{Halt, at_end, between, refetches_of, IsRefetchingPart, GoesBy, halt_of, StillAt, FetchesFor, NamedCalls, NamedPart, WrappedCalls, MissesWrappedBy, FetchesNothing}
+use Rattle.lid_top_script.specs.Fetches.{Halt, at_end, between, refetches_of, IsRefetchingPart, GoesBy}
+use Rattle.lid_top_script.specs.FetchSteps.{halt_of, StillAt, FetchesFor, NamedCalls, NamedPart, WrappedCalls, MissesWrappedBy, FetchesNothing}
 
 -- no fetches are some first ones of a file
 none_of : (whole : Bool) (held : Option (List ℕ)) (name : List ℕ) (limit : ℕ) → IsFetchingPart whole held name limit []

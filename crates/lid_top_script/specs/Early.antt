@@ -9,7 +9,8 @@ use Rattle.lid_top_script.specs.Outputs.{Output}
 use Rattle.lid_top_script.specs.Scripts.{gives, Script}
 use Rattle.lid_top_script.specs.Causes.{IsJobEnd, IsStoppedJob, IsRefusedJob}
 use Rattle.lid_top_script.specs.Statuses.{Writes, WritesPrefix, TellsAll, Leaves}
-use Rattle.lid_top_script.specs.Fetches.{Halt, at_end, at_write, GoesBy, halt_of, StillAt}
+use Rattle.lid_top_script.specs.Fetches.{Halt, at_end, at_write, GoesBy}
+use Rattle.lid_top_script.specs.FetchSteps.{halt_of, StillAt}
 
 -- over a shelf that holds this, whose counts rose so, from an output to one with what was written, and by which pieces
 pub record RunsEarly {O : Type 0} (held : List ℕ → Option (List ℕ)) (script : Script) (before after : List ℕ → ℕ)

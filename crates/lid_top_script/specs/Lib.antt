@@ -12,3 +12,4 @@ pub mod Whole
 pub mod Outputs
 pub mod Scripts
 pub mod Statuses
+pub mod FetchSteps

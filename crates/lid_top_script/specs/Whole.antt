@@ -7,7 +7,8 @@ use Rattle.lid_top_script.specs.declared.fault.Stop.{Stop}
 use Rattle.lid_top_script.specs.Scripts.{Script}
 use Rattle.lid_top_script.specs.Causes.{IsCause}
 use Rattle.lid_top_script.specs.Statuses.{HasText}
-use Rattle.lid_top_script.specs.Fetches.{GoesBy, HasTextBy, StepsBy, halt_of}
+use Rattle.lid_top_script.specs.Fetches.{GoesBy}
+use Rattle.lid_top_script.specs.FetchSteps.{HasTextBy, StepsBy, halt_of}
 
 -- over a shelf that held and holds this, whose counts rose so
 pub record RunsWhole (held now : List ℕ → Option (List ℕ)) (script : Script) (before after : List ℕ → ℕ) (result : Result (Vec ℕ Global) Stop) : Type 0 where

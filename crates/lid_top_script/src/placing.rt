@@ -8,7 +8,7 @@ ghost use Rattle.lid_stations.specs.Placements.{links_of, Fits};
 ghost use Rattle.lid_system.specs.Systems.{IsWellFormed as IsSystem};
 ghost use Rattle.lid_top_script.specs.Scripts.{text_limit, stations_read, wires_read, cert_read};
 ghost use Rattle.lid_top_script.specs.Causes.{GotPlacement, MissesPlacement};
-ghost use Rattle.lid_top_script.specs.Fetches.{FetchesNamed};
+ghost use Rattle.lid_top_script.specs.FetchSteps.{FetchesNamed};
 
 use crate::fault::{Stop, cert_stop, place_stop};
 use crate::reading::{FileText, read_file};

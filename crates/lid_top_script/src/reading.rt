@@ -3,7 +3,7 @@
 ghost use Rattle.std.specs.Prelude.{◌≡◌, ℕ, ◌≤◌, List, IfOk, IfErr};
 ghost use Rattle.lid_top_script.specs.Scripts.{IsFetched, Reading, good};
 ghost use Rattle.lid_top_script.specs.Causes.{Declines, MissesFile, Got, Misses};
-ghost use Rattle.lid_top_script.specs.Fetches.{FetchesFile};
+ghost use Rattle.lid_top_script.specs.FetchSteps.{FetchesFile};
 
 use crate::fault::Stop;
 use lid_base::Shelf;

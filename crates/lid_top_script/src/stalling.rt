@@ -4,7 +4,7 @@ ghost use Rattle.std.specs.Prelude.{◌≡◌, ℕ, ◌≤◌, List, IfOk, IfErr
 ghost use Rattle.lid_stall_text.specs.declared.stalls.Stall.{Stall};
 ghost use Rattle.lid_top_script.specs.Scripts.{text_limit, stalls_read};
 ghost use Rattle.lid_top_script.specs.Causes.{GotStalls, MissesStalls};
-ghost use Rattle.lid_top_script.specs.Fetches.{FetchesNamed};
+ghost use Rattle.lid_top_script.specs.FetchSteps.{FetchesNamed};
 ghost use Rattle.lid_stall_text.specs.Holds.{Ascend, listed};
 
 use crate::fault::{Stop, stalls_stop};

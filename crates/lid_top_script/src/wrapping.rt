@@ -3,7 +3,7 @@
 ghost use Rattle.std.specs.Prelude.{◌≡◌, ℕ, ◌≤◌, List, IfOk, IfErr};
 ghost use Rattle.lid_design.specs.WellFormed.{IsWellFormed};
 ghost use Rattle.lid_top_script.specs.Causes.{BuildsSystem, FailsSystem, GotSystem, MissesSystem, GotWrapped, MissesWrapped};
-ghost use Rattle.lid_top_script.specs.Fetches.{FetchesFile, FetchesWrapped};
+ghost use Rattle.lid_top_script.specs.FetchSteps.{FetchesFile, FetchesWrapped};
 ghost use Rattle.lid_top_script.specs.Scripts.{net_limit};
 
 use crate::fault::Stop;

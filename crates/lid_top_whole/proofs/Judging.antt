@@ -4,7 +4,7 @@ use Rattle.lid_cert.specs.declared.cert.Cert.{Cert}
 use Rattle.lid_stations.specs.declared.placement.Placement.{Placement}
 use Rattle.lid_stations.specs.Placements.{Links}
 use Rattle.lid_top_script.specs.Scripts.{judged_script, judging_script}
-use Rattle.lid_top_script.specs.Fetches.{FetchesNothing}
+use Rattle.lid_top_script.specs.FetchSteps.{FetchesNothing}
 
 judged_fetches_nothing : (l : Links) (cert : Cert) (holds : Bool) → FetchesNothing (judged_script l cert holds)
 judged_fetches_nothing l cert true = tt

@@ -3,7 +3,7 @@ use Rattle.lid_top_clock.specs.Clocking.{FileHasRows}
 use Rattle.lid_top_clock.specs.Stops.{stop_of_feed}
 use Rattle.lid_top_script.specs.Scripts.{rows_limit, vec_reading}
 use Rattle.lid_top_script.specs.Causes.{Misses}
-use Rattle.lid_top_script.specs.Fetches.{FetchesFile}
+use Rattle.lid_top_script.specs.FetchSteps.{FetchesFile}
 use Rattle.lid_top_script.specs.declared.fault.Stop.{Stop}
 use Rattle.lid_top_script.specs.Wrapped.{Wrapping}
 use Rattle.lid_top_clock.proofs.Fetched.{has_rows, misses, counts_so, counts_not}

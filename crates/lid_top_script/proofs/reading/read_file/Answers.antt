@@ -1,5 +1,5 @@
 use Rattle.std.proofs.Common.{ℕ, Ok, subst}
-use Rattle.lid_top_script.specs.Fetches.{FetchesFile}
+use Rattle.lid_top_script.specs.FetchSteps.{FetchesFile}
 use Rattle.lid_top_script.proofs.Fetched.{file_then}
 use Rattle.lid_top_script.proofs.reading.read_file.Goals as goal
 
