@@ -14,7 +14,8 @@ use Rattle.lid_stations.specs.Markings.{marking}
 use Rattle.lid_stations.proofs.Edges.{node_count}
 use Rattle.lid_stations.proofs.Alive.{rateable, have_tokens}
 use Rattle.lid_shell_laws.specs.Runs.{sink_of, IsWithinLag}
-use Rattle.lid_clock_laws.specs.Bounds.{HasBound, HasRatioAboveZero, MarkingsHaveRatiosAndLags, RunsHaveBounds}
+use Rattle.lid_clock_laws.specs.Bounds.{HasBound}
+use Rattle.lid_clock_laws.specs.Laws.{HasRatioAboveZero, MarkingsHaveRatiosAndLags, RunsHaveBounds}
 
 module _ (s : System) (p : Placement) (well : IsWellFormed s) (fits : Fits s p) where
   abbrev g : Graph

@@ -1,6 +1,6 @@
 //! That there are bounds. Each function here does nothing; its contract is a law for all systems and placements.
 
-ghost use Rattle.lid_clock_laws.specs.Bounds.{MarkingsHaveRatiosAndLags, RunsHaveBounds};
+ghost use Rattle.lid_clock_laws.specs.Laws.{MarkingsHaveRatiosAndLags, RunsHaveBounds};
 
 /// In the marked graph of a system with its stations each component has a ratio p/q, above 0 and at most 1, and each
 /// of its actors a lag.

@@ -5,7 +5,7 @@ use Rattle.lid_base.proofs.Lists.{among_left, among_append, among_flat, flat_amo
 use Rattle.lid_base.specs.Each.{from_each}
 use Rattle.lid_graph.specs.declared.graph.Edge.{Edge}
 use Rattle.lid_emit_circuit.specs.Plans.{CircuitPlan}
-use Rattle.lid_emit_circuit.specs.Runs.{station_edges, self_edge, graph}
+use Rattle.lid_emit_circuit.specs.Counts.{station_edges, self_edge, graph}
 use Rattle.lid_base.proofs.Each.{each_among, among_each}
 
 module _ (q : CircuitPlan) where

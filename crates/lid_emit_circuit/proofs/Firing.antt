@@ -11,7 +11,8 @@ use Rattle.lid_graph.proofs.Counting.{least_into_most}
 use Rattle.lid_emit_circuit.specs.Wires.{ActorEnd, drains, fills}
 use Rattle.lid_emit_circuit.specs.Plans.{CircuitPlan, ends}
 use Rattle.lid_emit_circuit.specs.Network.{sink}
-use Rattle.lid_emit_circuit.specs.Runs.{graph, held_by, fired, put_count, taken_count, counts_up}
+use Rattle.lid_emit_circuit.specs.Runs.{held_by, counts_up}
+use Rattle.lid_emit_circuit.specs.Counts.{graph, fired, put_count, taken_count}
 use Rattle.lid_emit_circuit.specs.Carried.{IsPlan, holds}
 use Rattle.lid_emit_circuit.proofs.Counts.{least_among, least_above, allows, never_falls, stays, comes}
 use Rattle.lid_emit_circuit.proofs.Edges.{forth, back, forth_there, back_there, each_edge}

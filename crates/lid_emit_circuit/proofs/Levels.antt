@@ -11,7 +11,8 @@ use Rattle.lid_emit_circuit.specs.Wires.{Wire, offer, block, may, fire, level, g
 use Rattle.lid_emit_circuit.specs.Gates.{constant, buffer, both, without, count, count_value}
 use Rattle.lid_emit_circuit.specs.Plans.{CircuitPlan, ends}
 use Rattle.lid_emit_circuit.specs.Network.{sink, last_link, link, gate, flop, emitted}
-use Rattle.lid_emit_circuit.specs.Runs.{graph, held_by, fired, put_count, taken_count, counts_up, row_bit}
+use Rattle.lid_emit_circuit.specs.Runs.{held_by, counts_up, row_bit}
+use Rattle.lid_emit_circuit.specs.Counts.{graph, fired, put_count, taken_count}
 use Rattle.lid_emit_circuit.specs.Carried.{IsPlan, holds, ShowsLevels}
 use Rattle.lid_emit_circuit.proofs.Values.{constant_is, buffer_is, both_is, without_is, count_is}
 use Rattle.lid_emit_circuit.proofs.Counts.{begins_at}

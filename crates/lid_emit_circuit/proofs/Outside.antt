@@ -11,7 +11,8 @@ use Rattle.lid_emit_circuit.specs.Wires.{Wire, shown, valid, stop, ActorEnd, dra
 use Rattle.lid_emit_circuit.specs.Gates.{both}
 use Rattle.lid_emit_circuit.specs.Plans.{CircuitPlan, ends}
 use Rattle.lid_emit_circuit.specs.Network.{sink, last_link, gate, emitted}
-use Rattle.lid_emit_circuit.specs.Runs.{held_by, fired, put_count, taken_count, counts_up}
+use Rattle.lid_emit_circuit.specs.Runs.{held_by, counts_up}
+use Rattle.lid_emit_circuit.specs.Counts.{fired, put_count, taken_count}
 use Rattle.lid_emit_circuit.specs.Carried.{IsPlan, Original, IsTaken, IsCarried, holds}
 use Rattle.lid_emit_circuit.specs.Laws.{SourceIsStopped, SinkIsServed}
 use Rattle.lid_emit_circuit.proofs.Values.{buffer_is, negation_is, both_is}

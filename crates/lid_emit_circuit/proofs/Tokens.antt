@@ -16,7 +16,8 @@ use Rattle.lid_emit_circuit.specs.Wires.{Wire, entry, given, steady, fire, level
 use Rattle.lid_emit_circuit.specs.Gates.{constant, buffer, move, move_value}
 use Rattle.lid_emit_circuit.specs.Plans.{CircuitPlan, ends}
 use Rattle.lid_emit_circuit.specs.Network.{sink, gate, flop, emitted}
-use Rattle.lid_emit_circuit.specs.Runs.{graph, held_by, fired, put_count, taken_count, counts_up, row_bit}
+use Rattle.lid_emit_circuit.specs.Runs.{held_by, counts_up, row_bit}
+use Rattle.lid_emit_circuit.specs.Counts.{graph, fired, put_count, taken_count}
 use Rattle.lid_emit_circuit.specs.Carried.{IsPlan, Original, FromEntry, FromNet, FromStation, IsPut, IsTaken, AreWired, IsCarriedShell, IsCarried, ShowsLevels, ShowsTokens, ShowsStates}
 use Rattle.lid_emit_circuit.proofs.Values.{constant_is, buffer_is, move_is}
 use Rattle.lid_emit_circuit.proofs.Counts.{begins_at}

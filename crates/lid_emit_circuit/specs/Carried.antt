@@ -10,7 +10,8 @@ use Rattle.lid_emit_circuit.specs.Wires.{Wire, given, steady, level, place, now,
 use Rattle.lid_emit_circuit.specs.Gates.{PassesOn}
 use Rattle.lid_emit_circuit.specs.Plans.{CircuitPlan}
 use Rattle.lid_emit_circuit.specs.Network.{sink}
-use Rattle.lid_emit_circuit.specs.Runs.{fired, put_count, taken_count, counts_up, row_bit}
+use Rattle.lid_emit_circuit.specs.Runs.{counts_up, row_bit}
+use Rattle.lid_emit_circuit.specs.Counts.{fired, put_count, taken_count}
 
 -- actors fill and drain the stations, of which they have lists; the source drains none, and the sink fills none
 pub record IsPlan (q : CircuitPlan) : Type 0 where

@@ -4,7 +4,8 @@ use Rattle.lid_design.specs.Network.{Table, IsStrict}
 use Rattle.lid_emit_circuit.specs.Wires.{Wire, fire, shown, valid, stop}
 use Rattle.lid_emit_circuit.specs.Plans.{CircuitPlan}
 use Rattle.lid_emit_circuit.specs.Network.{sink, emitted}
-use Rattle.lid_emit_circuit.specs.Runs.{fired, put_count, taken_count, counts_up}
+use Rattle.lid_emit_circuit.specs.Runs.{counts_up}
+use Rattle.lid_emit_circuit.specs.Counts.{fired, put_count, taken_count}
 use Rattle.lid_emit_circuit.specs.Carried.{IsPlan, Original, IsTaken, IsCarried, ShowsLevels, ShowsTokens, ShowsStates}
 
 -- in each row of each strict table of the network

@@ -10,3 +10,4 @@ pub mod Network
 pub mod Runs
 pub mod Carried
 pub mod Laws
+pub mod Counts

@@ -30,7 +30,8 @@ use Rattle.lid_stations.proofs.Spots.{channel_there, spot_of_station, station_at
 use Rattle.lid_stations.proofs.Movers.{carries}
 use Rattle.lid_emit_circuit.specs.Wires.{Wire, given, place}
 use Rattle.lid_emit_circuit.specs.Plans.{CircuitPlan}
-use Rattle.lid_emit_circuit.specs.Runs.{fired, counts_up, row_bit}
+use Rattle.lid_emit_circuit.specs.Runs.{counts_up, row_bit}
+use Rattle.lid_emit_circuit.specs.Counts.{fired}
 use Rattle.lid_emit_circuit.specs.Carried as carry
 use Rattle.lid_emit_system.specs.Nets.{NetWires, AreNetWires, AreNetsOf, HasBits, last_station, read_wire}
 use Rattle.lid_emit_system.specs.Faces.{first_count}

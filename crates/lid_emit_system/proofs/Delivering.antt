@@ -20,7 +20,8 @@ use Rattle.lid_stations.specs.Placements.{links_of, Fits}
 use Rattle.lid_emit_circuit.specs.Wires.{Wire, shown}
 use Rattle.lid_emit_circuit.specs.Plans.{CircuitPlan}
 use Rattle.lid_emit_circuit.specs.Network.{sink}
-use Rattle.lid_emit_circuit.specs.Runs.{graph, held_by, fired, counts_up, row_bit, data_row}
+use Rattle.lid_emit_circuit.specs.Runs.{held_by, counts_up, row_bit, data_row}
+use Rattle.lid_emit_circuit.specs.Counts.{graph, fired}
 use Rattle.lid_emit_circuit.proofs.Counts.{begins_at}
 use Rattle.lid_emit_circuit.proofs.Holding.{risen}
 use Rattle.lid_emit_circuit.proofs.Firing.{goes, rises_is}

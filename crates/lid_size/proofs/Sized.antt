@@ -12,7 +12,8 @@ use Rattle.lid_stations.specs.Markings.{forth}
 use Rattle.lid_stations.proofs.Edges.{by_edge, forth_at, back_at, self_at, node_count, edges_long, no_others, selves_there}
 use Rattle.lid_stations.proofs.Alive.{rateable}
 use Rattle.lid_stations.proofs.Spots.{starts_small}
-use Rattle.lid_size_laws.specs.Capacities.{IsForward, AreAlike, HasNoMore, DifferInCapacities}
+use Rattle.lid_size_laws.specs.Capacities.{IsForward}
+use Rattle.lid_size_laws.specs.Differing.{AreAlike, HasNoMore, DifferInCapacities}
 use Rattle.lid_size_laws.proofs.Forward.{ratios_stay, greater_keep}
 use Rattle.lid_rate_ratio.specs.declared.lowest_terms.Ratio.{Ratio}
 use Rattle.lid_size.specs.Sizing.{with_capacities, sized, AreCapacities, Reaches}

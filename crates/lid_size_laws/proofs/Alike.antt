@@ -4,7 +4,8 @@ use Rattle.std.specs.List.{All}
 use Rattle.lid_graph.specs.declared.graph.Graph.{Graph}
 use Rattle.lid_graph.specs.Walks.{edge_at, walk_start, walk_tokens, IsWalk, IsJoined}
 use Rattle.lid_graph.specs.Ratios.{IsClosedWalkNear}
-use Rattle.lid_size_laws.specs.Capacities.{IsForward, AreAlike, HasNoMore, DifferInCapacities}
+use Rattle.lid_size_laws.specs.Capacities.{IsForward}
+use Rattle.lid_size_laws.specs.Differing.{AreAlike, HasNoMore, DifferInCapacities}
 
 pub alike_back : (g h : Graph) → AreAlike g h → AreAlike h g
 alike_back g h like = record {

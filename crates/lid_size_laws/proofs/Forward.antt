@@ -5,7 +5,8 @@ use Rattle.lid_graph.specs.declared.graph.Graph.{Graph}
 use Rattle.lid_graph.specs.Walks.{walk_start, walk_tokens}
 use Rattle.lid_graph.specs.Ratios.{IsRatio}
 use Rattle.lid_graph.proofs.Journeys.{joined_step, joined_back}
-use Rattle.lid_size_laws.specs.Capacities.{IsForwardWalkNear, IsForwardRatio, HasForwardRatio, KeepsRatio, HasNoMore}
+use Rattle.lid_size_laws.specs.Capacities.{IsForwardWalkNear, IsForwardRatio, HasForwardRatio}
+use Rattle.lid_size_laws.specs.Differing.{KeepsRatio, HasNoMore}
 use Rattle.lid_size_laws.specs.Laws.{TokensRaiseRatios, NoRatioIsAboveForward, ForwardRatiosStay, ForwardRatiosSpread, ForwardRatiosAreKept, ForwardRatiosAreCompared, GreaterCapacitiesKeep}
 use Rattle.lid_size_laws.proofs.Scaling.{compared, lowered}
 use Rattle.lid_size_laws.proofs.Alike.{alike_back, closed_alike, fewer_tokens, forward_tokens}

@@ -3,7 +3,8 @@ use Rattle.std.specs.Prelude.{ℕ, ◌*◌, ◌≤◌, ◌↔◌}
 use Rattle.lid_graph.specs.declared.graph.Graph.{Graph}
 use Rattle.lid_graph.specs.Walks.{IsPaired, IsJoined}
 use Rattle.lid_graph.specs.Ratios.{IsRatio}
-use Rattle.lid_size_laws.specs.Capacities.{IsForwardRatio, HasForwardRatio, KeepsRatio, HasNoMore, DifferInCapacities}
+use Rattle.lid_size_laws.specs.Capacities.{IsForwardRatio, HasForwardRatio}
+use Rattle.lid_size_laws.specs.Differing.{KeepsRatio, HasNoMore, DifferInCapacities}
 
 -- more tokens never lower a ratio
 abbrev pub TokensRaiseRatios : Type 0
