@@ -1,4 +1,4 @@
-use Rattle.std.proofs.Common.{◌≡◌, ap, arith}
+use Rattle.std.proofs.Common.{ap, arith}
 use Rattle.lid_stations.specs.Placed.{Placing, links_in}
 use Rattle.lid_stations.specs.Stations.{actor_count}
 use Rattle.lid_stations.proofs.Spots.{fewer_relays}

@@ -1,9 +1,6 @@
 -- The stations of a channel stand at its places.
 use Rattle.std.proofs.Common.{◌≡◌, ◌+◌, ℕ, List, ◌++◌, length, get_or, ap, ◌∙◌, arith}
-use Rattle.std.specs.List.{flat_map}
-use Rattle.lid_base.specs.Each.{from_each}
 use Rattle.lid_graph.specs.declared.graph.Edge.{Edge}
-use Rattle.lid_stations.specs.Placements.{links_of}
 use Rattle.lid_stations.specs.Placed.{Placing, links_in}
 use Rattle.lid_stations.specs.Markings.{station_edges}
 use Rattle.lid_stations.proofs.Parts.{grown_one}
