@@ -76,7 +76,7 @@ may_fire l k g v a stations actor beside clear =
           let place = filled_there (links_of l.setup.system) l.setup.placement v station there fills in
           let read = read_at l k place.0 station a.outs.items (outs_of l v) stations actor.fills place.1 beside there in
           let x = read.station in
-          let some : x.put < x.taken + length x.places.items = clear.room place.0 read.within x read.at in
+          let some : x.put < x.taken + length x.places = clear.room place.0 read.within x read.at in
           subst (λ (n : ℕ). n < taken_after l k station + capacity l.setup.placement station) read.is.put_is
           (subst (λ (n : ℕ). x.put < n + capacity l.setup.placement station) read.is.taken_is
           (subst (λ (n : ℕ). x.put < x.taken + n) read.is.size some));

@@ -215,7 +215,7 @@ module _ (r : RunsGoByRules) (l : Life) (life : IsLife l) where
         let many : length actors ≡ actors_of l = is.joined.many in
         let filling = item_at actors (filler links l.setup.placement i) (omega arith) in
         let at : slice_get actors y.filler ≡ Some filling.0 = ap (slice_get actors) fills ∙ filling.1 in
-        let token : token_in x.places.items 0 ≡ token_of_life l i 0 = has.token filling.0 at ∙ first_token i y.slot filling.0 there filling.1 (omega arith) some laid.slot in
+        let token : token_in x.places 0 ≡ token_of_life l i 0 = has.token filling.0 at ∙ first_token i y.slot filling.0 there filling.1 (omega arith) some laid.slot in
         let put : x.put ≡ 1 = has.put_is in
         record {
           filled = has.filled ∙ fills;
@@ -227,7 +227,7 @@ module _ (r : RunsGoByRules) (l : Life) (life : IsLife l) where
           size = has.size ∙ laid.empty.size;
           tokens = λ j from to.
               let zero_is : j ≡ 0 = omega arith in
-              subst (λ (n : ℕ). token_in x.places.items n ≡ token_of_life l i n) (sym zero_is) token;
+              subst (λ (n : ℕ). token_in x.places n ≡ token_of_life l i n) (sym zero_is) token;
         }
 
     -- a station that starts with none

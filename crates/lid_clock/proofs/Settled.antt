@@ -106,24 +106,24 @@ pub record KeepsEnds (old new : ClockStation) : Type 0 where
 
 -- a station that gained its token
 pub gained : (l : Life) (station put taken token : ℕ) (old new : ClockStation) → IsStation l station put taken old → KeepsEnds old new → put < taken + capacity l.setup.placement station → token ≡ token_of_life l station put
-    → new.put ≡ old.put + 1 → new.taken ≡ old.taken → new.places.items ≡ set old.places.items (old.put % length old.places.items) token → IsStation l station (put + 1) taken new
+    → new.put ≡ old.put + 1 → new.taken ≡ old.taken → new.places ≡ set old.places (old.put % length old.places) token → IsStation l station (put + 1) taken new
 gained l station put taken token old new is ends room wants puts takes places =
-    let size : length old.places.items ≡ capacity l.setup.placement station = is.size in
-    let some : 0 < length old.places.items = old.some in
-    let written : new.places.items ≡ set old.places.items (put % length old.places.items) token = places ∙ ap (λ (n : ℕ). set old.places.items (n % length old.places.items) token) is.put_is in
+    let size : length old.places ≡ capacity l.setup.placement station = is.size in
+    let some : 0 < length old.places = old.some in
+    let written : new.places ≡ set old.places (put % length old.places) token = places ∙ ap (λ (n : ℕ). set old.places (n % length old.places) token) is.put_is in
     record {
       filled = ends.filler ∙ is.filled;
       slot = subst (λ (v : ℕ). slice_get (outs_of l v) new.slot ≡ Some station) (sym ends.filler) (subst (λ (i : ℕ). slice_get (outs_of l old.filler) i ≡ Some station) (sym ends.slot) is.slot);
       drained = ends.drainer ∙ is.drained;
       put_is = puts ∙ ap (λ (n : ℕ). n + 1) is.put_is;
       taken_is = takes ∙ is.taken_is;
-      size = ap length written ∙ length-set old.places.items (put % length old.places.items) token ∙ is.size;
-      tokens = λ i from to. ap (λ (xs : List ℕ). token_in xs i) written ∙ one_more (token_of_life l station) old.places.items taken put token some (omega arith) wants is.tokens i from to;
+      size = ap length written ∙ length-set old.places (put % length old.places) token ∙ is.size;
+      tokens = λ i from to. ap (λ (xs : List ℕ). token_in xs i) written ∙ one_more (token_of_life l station) old.places taken put token some (omega arith) wants is.tokens i from to;
     }
 
 -- a station that lost its oldest token
 pub lost : (l : Life) (station put taken : ℕ) (old new : ClockStation) → IsStation l station put taken old → KeepsEnds old new
-    → new.put ≡ old.put → new.taken ≡ old.taken + 1 → new.places.items ≡ old.places.items → IsStation l station put (taken + 1) new
+    → new.put ≡ old.put → new.taken ≡ old.taken + 1 → new.places ≡ old.places → IsStation l station put (taken + 1) new
 lost l station put taken old new is ends puts takes places =
     record {
       filled = ends.filler ∙ is.filled;
@@ -148,18 +148,18 @@ drainer_fired l k g station put taken x a is decided went =
 
 -- a station has room for the token of a filler that fired
 pub room_of : (r : RunsGoByRules) (l : Life) (k g station : ℕ) (x : ClockStation) (a : ClockActor) → IsLife l → station < stations_of l → IsStation l station (put_after l k station) (taken_after l k station) x → Decided l k g x.filler a → a.went ≡ true
-    → x.put < x.taken + length x.places.items
+    → x.put < x.taken + length x.places
 room_of r l k g station x a life there is decided went =
     let room : put_after l k station < taken_after l k station + capacity l.setup.placement station = had_room r l k station life there (filler_fired l k g station _ _ x a is decided went) in
     let puts : x.put ≡ put_after l k station = is.put_is in
     let takes : x.taken ≡ taken_after l k station = is.taken_is in
-    let size : length x.places.items ≡ capacity l.setup.placement station = is.size in
+    let size : length x.places ≡ capacity l.setup.placement station = is.size in
     omega arith
 
 -- a station gains the token that its filler put
 pub gains : (r : RunsGoByRules) (l : Life) (k g station token : ℕ) (old new : ClockStation) (a : ClockActor) → IsLife l → station < stations_of l → IsStation l station (put_after l k station) (taken_after l k station) old
     → Decided l k g old.filler a → a.went ≡ true → token ≡ get_or a.tokens.items old.slot 0 → KeepsEnds old new
-    → new.put ≡ old.put + 1 → new.taken ≡ old.taken → new.places.items ≡ set old.places.items (old.put % length old.places.items) token
+    → new.put ≡ old.put + 1 → new.taken ≡ old.taken → new.places ≡ set old.places (old.put % length old.places) token
     → IsStation l station (put_after l (suc k) station) (taken_after l k station) new
 gains r l k g station token old new a life there is decided went read ends puts takes places =
     let fired : fired_after l (suc k) (filler (links_of l.setup.system) l.setup.placement station) ≡ fired_after l k (filler (links_of l.setup.system) l.setup.placement station) + 1 = filler_fired l k g station _ _ old a is decided went in
@@ -198,7 +198,7 @@ grows l k g station put taken x a is decided = more a.went refl where
 
 -- a station has settled that loses its oldest token
 pub settles : (l : Life) (k g station : ℕ) (old new : ClockStation) (a : ClockActor) → IsStation l station (put_after l (suc k) station) (taken_after l k station) old → Decided l k g old.drainer a → a.went ≡ true → KeepsEnds old new
-    → new.put ≡ old.put → new.taken ≡ old.taken + 1 → new.places.items ≡ old.places.items
+    → new.put ≡ old.put → new.taken ≡ old.taken + 1 → new.places ≡ old.places
     → IsStation l station (put_after l (suc k) station) (taken_after l (suc k) station) new
 settles l k g station old new a is decided went ends puts takes places =
     subst (λ (n : ℕ). IsStation l station (put_after l (suc k) station) n new) (sym (drainer_fired l k g station _ _ old a is decided went))

@@ -24,11 +24,11 @@ abbrev pub tokens_out : Life → ℕ → ℕ → List ℕ
 tokens_out l v i = map (λ station. token_of_life l station i) (outs_of l v)
 
 -- the oldest token of a station is that of the number taken
-oldest_is : (l : Life) (station put taken : ℕ) (x : ClockStation) → IsStation l station put taken x → x.taken < x.put → token_in x.places.items x.taken ≡ token_of_life l station taken
+oldest_is : (l : Life) (station put taken : ℕ) (x : ClockStation) → IsStation l station put taken x → x.taken < x.put → token_in x.places x.taken ≡ token_of_life l station taken
 oldest_is l station put taken x is some =
     let there : x.put ≡ put = is.put_is in
     let gone : x.taken ≡ taken = is.taken_is in
-    ap (λ (i : ℕ). token_in x.places.items i) gone ∙ is.tokens taken (omega arith) (omega arith)
+    ap (λ (i : ℕ). token_in x.places i) gone ∙ is.tokens taken (omega arith) (omega arith)
 
 took_at : (l : Life) (k g v i : ℕ) (a : ClockActor) (stations : List ClockStation) (taken : List ℕ) → IsActor l g v (fired_after l k v) a → AreStations l k stations → AllHold a.ins.items stations
     → AreOldest a.ins.items stations taken → i < length (ins_of l v) → get_or taken i 0 ≡ get_or (tokens_in l v (fired_after l k v)) i 0

@@ -72,9 +72,9 @@ same_shown cap put taken f h same =
 
 -- what a station of a life shows
 pub shown_is : (l : Life) (station put taken : ℕ) (x : ClockStation) → IsStation l station put taken x
-    → shown_as (length x.places.items) x.put x.taken (token_in x.places.items) ≡ shown_as (capacity l.setup.placement station) put taken (token_of_life l station)
+    → shown_as (length x.places) x.put x.taken (token_in x.places) ≡ shown_as (capacity l.setup.placement station) put taken (token_of_life l station)
 shown_is l station put taken x is =
-    ap (λ (n : ℕ). shown_as n x.put x.taken (token_in x.places.items)) is.size
-    ∙ ap (λ (n : ℕ). shown_as (capacity l.setup.placement station) n x.taken (token_in x.places.items)) is.put_is
-    ∙ ap (λ (n : ℕ). shown_as (capacity l.setup.placement station) put n (token_in x.places.items)) is.taken_is
-    ∙ same_shown (capacity l.setup.placement station) put taken (token_in x.places.items) (token_of_life l station) (λ some. is.tokens taken (omega arith) some)
+    ap (λ (n : ℕ). shown_as n x.put x.taken (token_in x.places)) is.size
+    ∙ ap (λ (n : ℕ). shown_as (capacity l.setup.placement station) n x.taken (token_in x.places)) is.put_is
+    ∙ ap (λ (n : ℕ). shown_as (capacity l.setup.placement station) put n (token_in x.places)) is.taken_is
+    ∙ same_shown (capacity l.setup.placement station) put taken (token_in x.places) (token_of_life l station) (λ some. is.tokens taken (omega arith) some)

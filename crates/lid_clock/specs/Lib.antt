@@ -8,3 +8,4 @@ pub mod Ran
 pub mod Rules
 pub mod Cycles
 pub mod Starts
+pub mod Places

@@ -36,13 +36,13 @@ OneIsEmpty = OneIs (λ x. x.put ≤ x.taken)
 
 -- each station has room
 abbrev pub AllHaveRoom : List ℕ → List ClockStation → Type 0
-AllHaveRoom = AllAre (λ x. x.put < x.taken + length x.places.items)
+AllHaveRoom = AllAre (λ x. x.put < x.taken + length x.places)
 
 -- one of them is full
 abbrev pub OneIsFull : List ℕ → List ClockStation → Type 0
-OneIsFull = OneIs (λ x. x.taken + length x.places.items ≤ x.put)
+OneIsFull = OneIs (λ x. x.taken + length x.places ≤ x.put)
 
 -- these are the oldest tokens of stations
 pub record AreOldest (reads : List ℕ) (stations : List ClockStation) (tokens : List ℕ) : Type 0 where
   pub many : length tokens ≡ length reads
-  pub each : (i : ℕ) → i < length reads → (x : ClockStation) → IsStationAt reads stations i x → get_or tokens i 0 ≡ token_in x.places.items x.taken
+  pub each : (i : ℕ) → i < length reads → (x : ClockStation) → IsStationAt reads stations i x → get_or tokens i 0 ≡ token_in x.places x.taken

@@ -70,7 +70,7 @@ pub record IsEmptyBetween (filler drainer capacity : ℕ) (x : ClockStation) : T
   pub drained : x.drainer ≡ drainer
   pub put_is : x.put ≡ 0
   pub taken_is : x.taken ≡ 0
-  pub size : length x.places.items ≡ capacity
+  pub size : length x.places ≡ capacity
 
 -- a station as it was laid: empty, and its slot is the number of stations before it that its filler fills
 pub record IsLaid (l : Links) (p : Placement) (station : ℕ) (x : ClockStation) : Type 0 where
@@ -149,8 +149,8 @@ pub record HasGained (actors : List ClockActor) (old new : ClockStation) : Type 
   pub drained : new.drainer ≡ old.drainer
   pub put_is : new.put ≡ 1
   pub taken_is : new.taken ≡ 0
-  pub size : length new.places.items ≡ length old.places.items
-  pub token : (a : ClockActor) → slice_get actors old.filler ≡ Some a → token_in new.places.items 0 ≡ get_or a.tokens.items old.slot 0
+  pub size : length new.places ≡ length old.places
+  pub token : (a : ClockActor) → slice_get actors old.filler ≡ Some a → token_in new.places 0 ≡ get_or a.tokens.items old.slot 0
 
 -- where there are rows, a station that a node fills starts with a token, and each other with none
 abbrev pub StationBegins : Bool → ℕ → List ClockActor → ClockStation → ClockStation → Type 0

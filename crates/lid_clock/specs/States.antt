@@ -47,8 +47,8 @@ pub record IsStation (l : Life) (station put taken : ℕ) (x : ClockStation) : T
   pub drained : x.drainer ≡ drainer (links_of l.setup.system) l.setup.placement station
   pub put_is : x.put ≡ put
   pub taken_is : x.taken ≡ taken
-  pub size : length x.places.items ≡ capacity l.setup.placement station
-  pub tokens : (i : ℕ) → taken ≤ i → i < put → token_in x.places.items i ≡ token_of_life l station i
+  pub size : length x.places ≡ capacity l.setup.placement station
+  pub tokens : (i : ℕ) → taken ≤ i → i < put → token_in x.places i ≡ token_of_life l station i
 
 -- all stations after k cycles
 pub record AreStations (l : Life) (k : ℕ) (stations : List ClockStation) : Type 0 where

@@ -6,6 +6,7 @@ ghost use Rattle.lid_stations.specs.Placed.{links_in};
 ghost use Rattle.lid_clock.specs.Starts.{IsEmptyBetween, HasLaid, KeepsNew, Joins, IsNextSlot, CanJoin};
 
 use crate::actor::ClockActor;
+use crate::places::Places;
 use crate::station::ClockStation;
 use lid_stations::{Placed, drainer, filler};
 use std::alloc::{AllocError, Global};
@@ -65,7 +66,7 @@ fn lay(
     ensures empty { IfOk result (IsEmptyBetween filler drainer capacity) }
     ensures slot { IfOk result (λ x. IsNextSlot filler actors.old x.slot) }
 {
-    let places = Vec::from_elem(alloc, 0u32, capacity as usize)?;
+    let places = Places::new(alloc, capacity as usize)?;
     let slot = join(actors, station, filler, drainer)?;
     Ok(ClockStation {
         filler,

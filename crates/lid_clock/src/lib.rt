@@ -10,6 +10,7 @@ mod firing;
 mod joining;
 mod part;
 mod passing;
+mod places;
 mod readying;
 mod ring;
 mod rows;

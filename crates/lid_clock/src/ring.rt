@@ -17,29 +17,22 @@ impl ClockStation {
 
     /// Whether it holds as many tokens as it has places.
     pub(crate) fn is_full(&self) -> bool
-        ensures yes { result ≡ true → self.now.taken + length self.now.places.items ≤ self.now.put }
-        ensures no { result ≡ false → self.now.put < self.now.taken + length self.now.places.items }
+        ensures yes { result ≡ true → self.now.taken + length self.now.places ≤ self.now.put }
+        ensures no { result ≡ false → self.now.put < self.now.taken + length self.now.places }
     {
         self.put - self.taken == self.places.len() as u64
     }
 
-    /// The place of a token's number.
-    fn place_of(&self, number: u64) -> usize
-        ensures { result ≡ number % length self.now.places.items }
-    {
-        (number % self.places.len() as u64) as usize
-    }
-
     /// Its oldest token.
     pub(crate) fn oldest(&self) -> u32
-        ensures { result ≡ token_in self.now.places.items self.now.taken }
+        ensures { result ≡ token_in self.now.places self.now.taken }
     {
-        self.places[self.place_of(self.taken)]
+        self.places.at(self.places.place_of(self.taken))
     }
 
     /// What it shows.
     pub(crate) fn shown(&self) -> Shown
-        ensures { result ≡ shown_as (length self.now.places.items) self.now.put self.now.taken (token_in self.now.places.items) }
+        ensures { result ≡ shown_as (length self.now.places) self.now.put self.now.taken (token_in self.now.places) }
     {
         let valid = self.is_valid();
         Shown {
@@ -51,15 +44,15 @@ impl ClockStation {
 
     /// Takes in a token.
     pub(crate) fn accept(&mut self, token: u32)
-        requires room { self.old.put < self.old.taken + length self.old.places.items }
+        requires room { self.old.put < self.old.taken + length self.old.places }
         requires few { self.old.put + 1 < 2 ^ 64 }
         ensures ends { (self.new.filler ≡ self.old.filler) × (self.new.slot ≡ self.old.slot) × (self.new.drainer ≡ self.old.drainer) }
         ensures put { self.new.put ≡ self.old.put + 1 }
         ensures taken { self.new.taken ≡ self.old.taken }
-        ensures places { self.new.places.items ≡ set self.old.places.items (self.old.put % length self.old.places.items) token }
+        ensures places { self.new.places ≡ set self.old.places (self.old.put % length self.old.places) token }
     {
-        let place = self.place_of(self.put);
-        self.places[place] = token;
+        let place = self.places.place_of(self.put);
+        self.places.put(place, token);
         self.put += 1;
     }
 
@@ -69,7 +62,7 @@ impl ClockStation {
         ensures ends { (self.new.filler ≡ self.old.filler) × (self.new.slot ≡ self.old.slot) × (self.new.drainer ≡ self.old.drainer) }
         ensures put { self.new.put ≡ self.old.put }
         ensures taken { self.new.taken ≡ self.old.taken + 1 }
-        ensures places { self.new.places.items ≡ self.old.places.items }
+        ensures places { self.new.places ≡ self.old.places }
     {
         let _put = self.put;
         self.taken += 1;

@@ -95,7 +95,7 @@ impl ClockStation {
 
     /// Its places.
     pub fn ring(&self) -> &[u32]
-        ensures { result.now ≡ self.now.places.items }
+        ensures { result.now ≡ self.now.places }
     {
         self.places.as_slice()
     }

@@ -20,8 +20,8 @@ use Rattle.lid_clock_flat.proofs.Writes.{wrapped_cases}
 use Rattle.lid_graph.specs.Firings.{firings}
 
 module _ (stations : List ClockStation) (n : ℕ) (c : ClockStation) (old new : FlatStations) (was : AreFlattened stations n old) (at : slice_get stations n ≡ Some c) (last : IsLaidLast c old new) where
-  longer : length new.places.items ≡ length old.places.items + length c.places.items
-  longer = ap length last.places ∙ length-append old.places.items c.places.items
+  longer : length new.places.items ≡ length old.places.items + length c.places
+  longer = ap length last.places ∙ length-append old.places.items c.places
 
   new_is : IsFlattened (length old.places.items) c last.station
   new_is = last.is
@@ -37,7 +37,7 @@ module _ (stations : List ClockStation) (n : ℕ) (c : ClockStation) (old new : 
           is = is;
           tokens = λ i less.
               ap (λ (xs : List ℕ). get_or xs (y.base + i) 0) last.places
-              ∙ get_or_append_left old.places.items c.places.items 0 (y.base + i) (omega (arith, was.apart.there s y here, is.cap))
+              ∙ get_or_append_left old.places.items c.places 0 (y.base + i) (omega (arith, was.apart.there s y here, is.cap))
               ∙ own.2.tokens i less;
         },
       )
@@ -47,8 +47,8 @@ module _ (stations : List ClockStation) (n : ℕ) (c : ClockStation) (old new : 
     is = subst (λ (b : ℕ). IsFlattened b c last.station) (sym new_is.base) new_is;
     tokens = λ i less.
         ap (λ (xs : List ℕ). get_or xs (last.station.base + i) 0) last.places
-        ∙ ap (λ (b : ℕ). get_or (old.places.items ++ c.places.items) (b + i) 0) new_is.base
-        ∙ get_or-append-add old.places.items c.places.items i 0;
+        ∙ ap (λ (b : ℕ). get_or (old.places.items ++ c.places) (b + i) 0) new_is.base
+        ∙ get_or-append-add old.places.items c.places i 0;
   }
 
   within : (s : ℕ) (y : FlatStation) → slice_get new.all.items s ≡ Some y → y.base + y.cap ≤ length new.places.items
@@ -72,15 +72,15 @@ module _ (stations : List ClockStation) (n : ℕ) (c : ClockStation) (old new : 
   laid_next = record {
     many = ap length last.all ∙ length_push old.all.items last.station ∙ ap (λ (m : ℕ). m + 1) was.many;
     apart = record { there = within; apart = own_places };
-    long = let few : length c.places.items ≤ 16 = c.few in omega (arith, was.long, longer);
+    long = let few : length c.places ≤ 16 = c.few in omega (arith, was.long, longer);
     each = λ s y here.
         each_push (λ i w. (d : ClockStation) × (slice_get stations i ≡ Some d) × StandsFlat new.places.items d w) old.all.items last.station before
         (c, ap (slice_get stations) was.many ∙ at, this) s y (subst (λ (xs : List FlatStation). slice_get xs s ≡ Some y) last.all here);
   }
 
 -- what was pushed is the last station
-pub laid_last : (c : ClockStation) (old new : FlatStations) (y : FlatStation) → new.all.items ≡ old.all.items ++ y ∷ [] → new.places.items ≡ old.places.items ++ c.places.items
-    → y.filler ≡ c.filler → y.drainer ≡ c.drainer → y.base ≡ length old.places.items → y.cap ≡ length c.places.items → y.head ≡ 0 → y.held ≡ c.put → IsLaidLast c old new
+pub laid_last : (c : ClockStation) (old new : FlatStations) (y : FlatStation) → new.all.items ≡ old.all.items ++ y ∷ [] → new.places.items ≡ old.places.items ++ c.places
+    → y.filler ≡ c.filler → y.drainer ≡ c.drainer → y.base ≡ length old.places.items → y.cap ≡ length c.places → y.head ≡ 0 → y.held ≡ c.put → IsLaidLast c old new
 laid_last c old new y all places filler drainer base cap head held = record { station = y; is = record { filler = filler; drainer = drainer; base = base; cap = cap; head = head; held = held }; all = all; places = places }
 
 -- one mover more
@@ -113,24 +113,24 @@ module _ (r : RunsGoByRules) (l : Life) (life : IsLife l) where
       let taken : c.taken ≡ taken_after l 0 s = is.taken_is in
       let laid = stands.is in
       let held : y.held ≡ c.put = laid.held in
-      let size : y.cap ≡ length c.places.items = laid.cap in
-      let within : c.put ≤ c.taken + length c.places.items = c.within in
+      let size : y.cap ≡ length c.places = laid.cap in
+      let within : c.put ≤ c.taken + length c.places = c.within in
       record {
         filled = laid.filler ∙ is.filled;
         drained = laid.drainer ∙ is.drained;
         size = size ∙ is.size;
         holds = omega arith;
         tokens = λ i less.
-            let low : i < length c.places.items = omega arith in
+            let low : i < length c.places = omega arith in
             let place : around (y.head + i) y.cap ≡ i = elim (wrapped_cases (y.head + i) y.cap) [
               | inl h ↦ omega (arith, h.1, laid.head)
               | inr h ↦ absurd (omega (arith, h.0, laid.head))
             ] in
-            let small : i % length c.places.items ≡ i = mod-eq_of_lt low in
+            let small : i % length c.places ≡ i = mod-eq_of_lt low in
             let number : i ≡ taken_after l 0 s + i = omega arith in
             ap (λ (n : ℕ). get_or places (y.base + n) 0) place
             ∙ stands.tokens i low
-            ∙ ap (λ (n : ℕ). get_or c.places.items n 0) (sym small)
+            ∙ ap (λ (n : ℕ). get_or c.places n 0) (sym small)
             ∙ is.tokens i (omega arith) (omega arith)
             ∙ ap (token_of_life l s) number;
       }

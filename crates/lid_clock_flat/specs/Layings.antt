@@ -16,7 +16,7 @@ pub record IsFlattened (start : ℕ) (c : ClockStation) (y : FlatStation) : Type
   pub filler : y.filler ≡ c.filler
   pub drainer : y.drainer ≡ c.drainer
   pub base : y.base ≡ start
-  pub cap : y.cap ≡ length c.places.items
+  pub cap : y.cap ≡ length c.places
   pub head : y.head ≡ 0
   pub held : y.held ≡ c.put
 
@@ -25,12 +25,12 @@ pub record IsLaidLast (c : ClockStation) (old new : FlatStations) : Type 0 where
   pub station : FlatStation
   pub is : IsFlattened (length old.places.items) c station
   pub all : new.all.items ≡ old.all.items ++ station ∷ []
-  pub places : new.places.items ≡ old.places.items ++ c.places.items
+  pub places : new.places.items ≡ old.places.items ++ c.places
 
 -- a station that was laid, of which the places are those of the ring
 pub record StandsFlat (places : List ℕ) (c : ClockStation) (y : FlatStation) : Type 0 where
   pub is : IsFlattened y.base c y
-  pub tokens : (i : ℕ) → i < length c.places.items → get_or places (y.base + i) 0 ≡ get_or c.places.items i 0
+  pub tokens : (i : ℕ) → i < length c.places → get_or places (y.base + i) 0 ≡ get_or c.places i 0
 
 -- the first n stations were laid
 pub record AreFlattened (stations : List ClockStation) (n : ℕ) (x : FlatStations) : Type 0 where
