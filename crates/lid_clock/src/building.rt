@@ -37,7 +37,7 @@ fn source_part(alloc: Global, system: &System, first: Option<&[bool]>) -> Result
 {
     let node = SourceNode::of(alloc, system)?;
     let row = held_row(alloc, first, node.width())?;
-    Ok(Role::Source(Box::new(alloc, node)?, row))
+    Ok(Role::Source(node, row))
 }
 
 /// A shell.
@@ -47,7 +47,7 @@ fn shell_part(alloc: Global, system: &System, v: u32) -> Result<Role, AllocError
     ensures { IfOk result (λ part. (first : Option (List Bool)) → IsNewRole system.now first v part) }
 {
     let node = ShellNode::of(alloc, system, v)?;
-    Ok(Role::Shell(Box::new(alloc, node)?))
+    Ok(Role::Shell(node))
 }
 
 /// The sink.
@@ -57,7 +57,7 @@ fn sink_part(alloc: Global, system: &System) -> Result<Role, AllocError>
 {
     let node = SinkNode::of(alloc, system)?;
     let row = Vec::from_elem(alloc, false, node.width())?;
-    Ok(Role::Sink(Box::new(alloc, node)?, row))
+    Ok(Role::Sink(node, row))
 }
 
 /// The part of an actor.
