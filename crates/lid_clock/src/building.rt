@@ -2,6 +2,7 @@
 
 ghost use Rattle.std.specs.Prelude.{◌≡◌, ◌+◌, ◌-◌, ◌<◌, ℕ, Bool, List, length, Option, IfOk, IfSome};
 ghost use Rattle.lid_system.specs.Systems.{IsWellFormed};
+ghost use Rattle.lid_shell_nodes.specs.Placing.{ArePlacesOf};
 ghost use Rattle.lid_stations.specs.Placements.{links_of};
 ghost use Rattle.lid_stations.specs.Placed.{links_in};
 ghost use Rattle.lid_stations.specs.Stations.{actor_count};
@@ -12,7 +13,7 @@ ghost use Rattle.lid_clock.specs.Starts.{IsNewRole, IsNew, IsAlone, AreUnjoined}
 
 use crate::actor::ClockActor;
 use crate::part::Role;
-use lid_shell_nodes::{ShellNode, SinkNode, SourceNode};
+use lid_shell_nodes::{ShellNode, SinkNode, SourceNode, TokenPlaces};
 use lid_stations::Placed;
 use lid_system::System;
 use std::alloc::{AllocError, Global};
@@ -41,12 +42,18 @@ fn source_part(alloc: Global, system: &System, first: Option<&[bool]>) -> Result
 }
 
 /// A shell.
-fn shell_part(alloc: Global, system: &System, v: u32) -> Result<Role, AllocError>
+fn shell_part(
+    alloc: Global,
+    system: &System,
+    places: &TokenPlaces,
+    v: u32,
+) -> Result<Role, AllocError>
     requires system { IsWellFormed system.now }
+    requires places { ArePlacesOf system.now places.now }
     requires shell { (0 < v) × (v + 1 < length system.now.nodes) }
     ensures { IfOk result (λ part. (first : Option (List Bool)) → IsNewRole system.now first v part) }
 {
-    let node = ShellNode::of(alloc, system, v)?;
+    let node = ShellNode::at(alloc, system, places, v)?;
     Ok(Role::Shell(node))
 }
 
@@ -64,10 +71,12 @@ fn sink_part(alloc: Global, system: &System) -> Result<Role, AllocError>
 fn new_part(
     alloc: Global,
     system: &System,
+    places: &TokenPlaces,
     first: Option<&[bool]>,
     v: u32,
 ) -> Result<Role, AllocError>
     requires system { IsWellFormed system.now }
+    requires places { ArePlacesOf system.now places.now }
     requires first { IfSome (lent first) (IsInputRow system.now) }
     requires few { v < 2147483648 }
     ensures { IfOk result (IsNewRole system.now (lent first.entry) v) }
@@ -76,7 +85,7 @@ fn new_part(
     if v == 0 {
         source_part(alloc, system, first)
     } else if v + 1 < nodes {
-        shell_part(alloc, system, v)
+        shell_part(alloc, system, places, v)
     } else if v < nodes {
         sink_part(alloc, system)
     } else {
@@ -101,17 +110,19 @@ fn cap_at(system: &System, rows: u64, v: u32) -> u64
 fn new_actor(
     alloc: Global,
     system: &System,
+    places: &TokenPlaces,
     rows: u64,
     first: Option<&[bool]>,
     v: u32,
 ) -> Result<ClockActor, AllocError>
     requires system { IsWellFormed system.now }
+    requires places { ArePlacesOf system.now places.now }
     requires first { IfSome (lent first) (IsInputRow system.now) }
     requires few { v < 2147483648 }
     ensures new { IfOk result (IsNew system.now rows (lent first.entry) v) }
     ensures alone { IfOk result IsAlone }
 {
-    let part = new_part(alloc, system, first, v)?;
+    let part = new_part(alloc, system, places, first, v)?;
     Ok(ClockActor {
         part,
         ins: Vec::new(alloc),
@@ -144,9 +155,10 @@ pub(crate) fn new_actors(
     ensures { IfOk result (λ actors. AreUnjoined placed.now.system rows (lent first.entry)
         (actor_count (links_in placed.now) placed.now.placement) actors.items) }
 {
+    let places = TokenPlaces::of(alloc, placed.system)?;
     let mut actors = Vec::new(alloc);
     for v in 0..actors_of(placed) {
-        actors.push(new_actor(alloc, placed.system, rows, first, v)?)?;
+        actors.push(new_actor(alloc, placed.system, &places, rows, first, v)?)?;
     }
     Ok(actors)
 }

@@ -4,6 +4,7 @@ ghost use Rattle.std.specs.Prelude.{◌≡◌, ◌↔◌, ◌+◌, ◌<◌, ◌�
 ghost use Rattle.std.specs.List.{AllByRecursion};
 ghost use Rattle.lid_base.specs.declared.runs.Answer.TheVariants as answer;
 ghost use Rattle.lid_system.specs.Systems.{IsWellFormed};
+ghost use Rattle.lid_shell_nodes.specs.Wiring.{IsShellOf};
 ghost use Rattle.lid_stations.specs.Placements.{links_of};
 ghost use Rattle.lid_walk_machine.specs.Plans.{actors_of, sink, ins_of, outs_of};
 ghost use Rattle.lid_walk_machine.specs.Setups.{output_rows, plan};
@@ -83,6 +84,23 @@ impl<'r> Actor<'r> {
             → outs_of (plan m) node ≡ outs.now → IsActor m node (record { fired = 0; position = 0 }) a) }
     {
         let part = ShellNode::of(alloc, system, node)?;
+        Actor::shell_with(alloc, part, ins, outs, rows)
+    }
+
+    /// A shell, where its node is at hand, in a run of so many rows, with these stations as for `shell`.
+    ///
+    /// # Errors
+    /// Memory is wanting.
+    pub fn shell_with(
+        alloc: Global,
+        part: ShellNode,
+        ins: &[u32],
+        outs: &[u32],
+        rows: u64,
+    ) -> Result<Actor<'r>, AllocError>
+        ensures { IfOk result (λ a. (m : Setup) (v : ℕ) → IsSetup m → 0 < v → v + 1 < length m.system.nodes → IsShellOf m.system m.table v 0 part
+            → length m.input ≡ rows → ins_of (plan m) v ≡ ins.now → outs_of (plan m) v ≡ outs.now → IsActor m v (record { fired = 0; position = 0 }) a) }
+    {
         let desk = new_desk(alloc, ins, outs, rows.saturating_sub(1))?;
         Ok(Actor {
             desk,

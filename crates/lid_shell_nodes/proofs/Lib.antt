@@ -1,3 +1,4 @@
 mod Places
+mod Origins
 mod Tokens
 mod Following

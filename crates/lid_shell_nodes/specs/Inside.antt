@@ -1,7 +1,8 @@
 -- How a node reads tokens and makes tokens, and what is known of the fields of one. These serve loops and
 -- invariants.
-use Rattle.std.specs.Prelude.{◌≡◌, ℕ, ◌+◌, ◌<◌, ◌==◌, Bool, if◌then◌else◌, List, [], ◌∷◌, length, map, slice_index_or, ⊤}
+use Rattle.std.specs.Prelude.{◌≡◌, ℕ, ◌<◌, Bool, List, length, map, slice_index_or, ⊤}
 use Rattle.std.specs.List.{AllByRecursion}
+use Rattle.std.specs.List.Sorted.{IsNonDecreasingBy}
 use Rattle.lid_cover.specs.Masks.{packed}
 use Rattle.lid_strict_engine.specs.Rows.{bit_at}
 use Rattle.lid_strict_engine.specs.Truth.{is_set}
@@ -21,10 +22,9 @@ bit_read taken (Bit place b) = is_set (slice_index_or taken place 0) b
 abbrev pub token_of_bits : List Bool → List ℕ → ℕ
 token_of_bits bits ports = packed (map (bit_at bits) ports)
 
--- how many channels lead to node v before each of these, and before their end, where so many did before
-abbrev pub places_after : ℕ → ℕ → List Channel → List ℕ
-places_after v n [] = n ∷ []
-places_after v n (c ∷ channels) = n ∷ places_after v (if c.to == v then n + 1 else n) channels
+-- channels stand in the order of where they come from
+abbrev pub StandByOrigin : List Channel → Type 0
+StandByOrigin channels = IsNonDecreasingBy (λ c. c.from) channels
 
 -- what an input reads, by the places of channels
 abbrev pub read_in : List ℕ → InBit → InputRead

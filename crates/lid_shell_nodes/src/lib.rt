@@ -9,4 +9,4 @@ mod wires;
 pub use shell::ShellNode;
 pub use sink::SinkNode;
 pub use source::SourceNode;
-pub use wires::InputRead;
+pub use wires::{InputRead, TokenPlaces};

@@ -1,20 +1,20 @@
 //! Shells.
 
-ghost use Rattle.std.specs.Prelude.{◌≡◌, ◌≤◌, ◌<◌, ◌+◌, ℕ, Bool, List, length, map, Some, slice_get, IfOk};
+ghost use Rattle.std.specs.Prelude.{◌≡◌, ◌<◌, ◌+◌, ℕ, Bool, List, length, map, Some, slice_get, IfOk};
 ghost use Rattle.std.specs.List.{AllByRecursion};
 ghost use Rattle.lid_design.specs.Network.{Table};
 ghost use Rattle.lid_system.specs.declared.System.{System};
 ghost use Rattle.lid_system.specs.declared.Node.TheVariants.{Shell};
-ghost use Rattle.lid_system.specs.Systems.{Point, IsWellFormed};
+ghost use Rattle.lid_system.specs.Systems.{Point, IsRead, IsWellFormed};
 ghost use Rattle.lid_system.specs.Tables.{IsTable};
-ghost use Rattle.lid_shell_nodes.specs.Nodes.{channels_to, channels_from, tokens_to, tokens_from};
-ghost use Rattle.lid_shell_nodes.specs.Wiring.{read_of, IsShellOf};
-ghost use Rattle.lid_shell_nodes.specs.Inside.{ReadsBelow};
+ghost use Rattle.lid_shell_nodes.specs.Nodes.{channels_to, tokens_to, tokens_from};
+ghost use Rattle.lid_shell_nodes.specs.Wiring.{read_of, ports_from, IsShellOf};
+ghost use Rattle.lid_shell_nodes.specs.Placing.{ArePlacesOf};
 
-use crate::wires::{Inputs, inputs_of, pack_all, ports_of, read_all};
+use crate::wires::{Inputs, TokenPlaces, inputs_of, pack_all, ports_of, read_all};
 use lid_base::Items;
 use lid_pearl::Pearl;
-use lid_system::{Channel, InBit, Node, System, shells_stand_between_source_and_sink};
+use lid_system::{InBit, Node, System, shells_stand_between_source_and_sink};
 use std::alloc::{AllocError, Global};
 use std::marker::Model;
 
@@ -61,10 +61,26 @@ impl ShellNode {
         requires shell { (0 < node) × (node + 1 < length system.now.nodes) }
         ensures { IfOk result (λ x. (b : Table Point) → IsShellOf system.now b node 0 x) }
     {
+        let places = TokenPlaces::of(alloc, system)?;
+        ShellNode::at(alloc, system, &places, node)
+    }
+
+    /// The same, where the places of all tokens are at hand.
+    pub fn at(
+        alloc: Global,
+        system: &System,
+        places: &TokenPlaces,
+        node: u32,
+    ) -> Result<ShellNode, AllocError>
+        requires system { IsWellFormed system.now }
+        requires places { ArePlacesOf system.now places.now }
+        requires shell { (0 < node) × (node + 1 < length system.now.nodes) }
+        ensures { IfOk result (λ x. (b : Table Point) → IsShellOf system.now b node 0 x) }
+    {
         shells_stand_between_source_and_sink();
         match &system.nodes.as_slice()[node as usize] {
             Node::Shell { pearl, ins } => {
-                ShellNode::make(alloc, system, node, pearl, ins.as_slice())
+                ShellNode::make(alloc, system, places, node, pearl, ins.as_slice())
             }
             _ => unreachable!(),
         }
@@ -74,16 +90,18 @@ impl ShellNode {
     fn make(
         alloc: Global,
         system: &System,
+        places: &TokenPlaces,
         node: u32,
         pearl: &Pearl,
         ins: &[InBit],
     ) -> Result<ShellNode, AllocError>
         requires system { IsWellFormed system.now }
+        requires places { ArePlacesOf system.now places.now }
         requires shell { slice_get system.now.nodes node ≡ Some (Shell pearl.now ins.now) }
         ensures { IfOk result (λ x. (b : Table Point) → IsShellOf system.now b node 0 x) }
     {
         let copy = pearl.copy()?;
-        let wires = wires_of(alloc, system.channels.as_slice(), node, ins)?;
+        let wires = wires_of(alloc, system, places, node, ins)?;
         let room = room_of(alloc, ins.len(), copy.outs())?;
         Ok(ShellNode {
             pearl: copy,
@@ -129,18 +147,21 @@ impl ShellNode {
 /// What a shell reads and puts.
 fn wires_of(
     alloc: Global,
-    channels: &[Channel],
+    system: &System,
+    places: &TokenPlaces,
     node: u32,
     ins: &[InBit],
 ) -> Result<Wires, AllocError>
-    requires few { length channels.now ≤ 16384 }
-    requires placed { AllByRecursion (ReadsBelow (length channels.now)) ins.now }
-    ensures taken { IfOk result (λ x. x.inputs.taken ≡ length (channels_to channels.now node)) }
-    ensures reads { IfOk result (λ x. x.inputs.reads.items ≡ map (read_of channels.now node) ins.now) }
-    ensures ports { IfOk result (λ x. x.ports.items ≡ map (λ c. c.ports) (channels_from channels.now node)) }
+    requires system { IsWellFormed system.now }
+    requires places { ArePlacesOf system.now places.now }
+    requires node { node < length system.now.nodes }
+    requires read { AllByRecursion (IsRead system.now node) ins.now }
+    ensures taken { IfOk result (λ x. x.inputs.taken ≡ length (channels_to system.now.channels node)) }
+    ensures reads { IfOk result (λ x. x.inputs.reads.items ≡ map (read_of system.now.channels node) ins.now) }
+    ensures ports { IfOk result (λ x. x.ports.items ≡ ports_from system.now node) }
 {
-    let inputs = inputs_of(alloc, channels, node, ins)?;
-    let ports = ports_of(alloc, channels, node)?;
+    let inputs = inputs_of(alloc, places, node, ins)?;
+    let ports = ports_of(alloc, system.channels.as_slice(), node)?;
     Ok(Wires { inputs, ports })
 }
 

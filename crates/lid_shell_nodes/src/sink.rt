@@ -9,7 +9,7 @@ ghost use Rattle.lid_system.specs.Streams.{output_row};
 ghost use Rattle.lid_shell_nodes.specs.Nodes.{tokens_to};
 ghost use Rattle.lid_shell_nodes.specs.Wiring.{IsSinkOf};
 
-use crate::wires::{Inputs, inputs_of, read_all};
+use crate::wires::{Inputs, TokenPlaces, inputs_of, read_all};
 use lid_system::{Node, System, shells_stand_between_source_and_sink};
 use std::alloc::{AllocError, Global};
 use std::marker::Model;
@@ -38,11 +38,11 @@ impl SinkNode {
         ensures { IfOk result (λ x. IsSinkOf system.now (length system.now.nodes - 1) x) }
     {
         shells_stand_between_source_and_sink();
+        let places = TokenPlaces::of(alloc, system)?;
         let last = system.nodes.len() - 1;
         match &system.nodes.as_slice()[last] {
             Node::Sink { ins, .. } => {
-                let channels = system.channels.as_slice();
-                let inputs = inputs_of(alloc, channels, last as u32, ins.as_slice())?;
+                let inputs = inputs_of(alloc, &places, last as u32, ins.as_slice())?;
                 Ok(SinkNode { inputs })
             }
             _ => unreachable!(),

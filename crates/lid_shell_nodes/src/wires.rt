@@ -1,14 +1,16 @@
 //! How inputs read tokens, and how outputs become tokens.
 
-ghost use Rattle.std.specs.Prelude.{◌≡◌, ◌≤◌, ◌<◌, ◌+◌, ℕ, Bool, List, length, map, IfOk};
+ghost use Rattle.std.specs.Prelude.{◌≡◌, ◌≤◌, ◌<◌, ◌+◌, ℕ, Bool, List, length, map, slice_index_or, IfOk};
 ghost use Rattle.std.specs.List.{AllByRecursion};
-ghost use Rattle.lid_shell_nodes.specs.Nodes.{channels_to, channels_from};
-ghost use Rattle.lid_shell_nodes.specs.Wiring.{read_of, IsReadOf, IsPackOf};
-ghost use Rattle.lid_shell_nodes.specs.Inside.{bit_read, token_of_bits, places_after, read_in, ReadsBelow};
+ghost use Rattle.lid_system.specs.Systems.{IsWellFormed};
+ghost use Rattle.lid_shell_nodes.specs.Nodes.{channels_from};
+ghost use Rattle.lid_shell_nodes.specs.Wiring.{IsReadOf, IsPackOf};
+ghost use Rattle.lid_shell_nodes.specs.Placing.{ArePlacesOf};
+ghost use Rattle.lid_shell_nodes.specs.Inside.{bit_read, token_of_bits, read_in, ReadsBelow, StandByOrigin};
 
 use lid_base::Items;
 use lid_strict_engine::copy_of;
-use lid_system::{Channel, InBit, pack, unpack};
+use lid_system::{Channel, InBit, System, pack, unpack};
 use std::alloc::{AllocError, Global};
 
 /// What an input reads of the tokens that its node takes.
@@ -60,21 +62,29 @@ pub fn pack_all(bits: &[bool], ports: &[Items<u32>], into: &mut [u32])
     }
 }
 
-/// For each channel how many before it lead to a node, and last how many do of all.
-fn places_to(alloc: Global, channels: &[Channel], node: u32) -> Result<Vec<u32>, AllocError>
-    requires { length channels.now ≤ 16384 }
-    ensures { IfOk result (λ places. places.items ≡ places_after node 0 channels.now) }
-{
-    let mut places = Vec::with_capacity(alloc, channels.len() + 1)?;
-    let mut place = 0u32;
-    for channel in channels {
-        places.push(place)?;
-        if channel.to == node {
-            place += 1;
+/// Where the token of each channel stands among those that the node takes to which the channel leads, and how many
+/// tokens each node takes.
+#[derive(Drop)]
+pub struct TokenPlaces {
+    places: Vec<u32>,
+    taken: Vec<u32>,
+}
+
+impl TokenPlaces {
+    /// Those of all channels and nodes of a system. It goes once over all channels.
+    pub fn of(alloc: Global, system: &System) -> Result<TokenPlaces, AllocError>
+        requires { IsWellFormed system.now }
+        ensures { IfOk result (ArePlacesOf system.now) }
+    {
+        let mut taken = Vec::from_elem(alloc, 0u32, system.nodes.len())?;
+        let mut places = Vec::with_capacity(alloc, system.channels.len())?;
+        for channel in system.channels.as_slice() {
+            let node = channel.to as usize;
+            places.push(taken[node])?;
+            taken[node] += 1;
         }
+        Ok(TokenPlaces { places, taken })
     }
-    places.push(place)?;
-    Ok(places)
 }
 
 /// What an input reads, by the places of channels.
@@ -103,38 +113,46 @@ fn reads_of(alloc: Global, ins: &[InBit], places: &[u32]) -> Result<Vec<InputRea
     Ok(reads)
 }
 
-/// The inputs of a node. It goes once over all channels.
+/// The inputs of a node.
 pub fn inputs_of(
     alloc: Global,
-    channels: &[Channel],
+    places: &TokenPlaces,
     node: u32,
     ins: &[InBit],
 ) -> Result<Inputs, AllocError>
-    requires few { length channels.now ≤ 16384 }
-    requires placed { AllByRecursion (ReadsBelow (length channels.now)) ins.now }
-    ensures taken { IfOk result (λ x. x.taken ≡ length (channels_to channels.now node)) }
-    ensures reads { IfOk result (λ x. x.reads.items ≡ map (read_of channels.now node) ins.now) }
+    requires node { node < length places.now.taken.items }
+    requires placed { AllByRecursion (ReadsBelow (length places.now.places.items)) ins.now }
+    ensures taken { IfOk result (λ x. x.taken ≡ slice_index_or places.now.taken.items node 0) }
+    ensures reads { IfOk result (λ x. x.reads.items ≡ map (read_in places.now.places.items) ins.now) }
 {
-    let counts = places_to(alloc, channels, node)?;
-    let places = counts.as_slice();
-    let reads = reads_of(alloc, ins, places)?;
-    let taken = places[channels.len()];
+    let reads = reads_of(alloc, ins, places.places.as_slice())?;
+    let taken = places.taken.as_slice()[node as usize];
     Ok(Inputs { taken, reads })
 }
 
-/// The ports of each channel that comes from a node. It goes once over all channels.
+/// The channels that come from a node, by halving.
+fn those_from(channels: &[Channel], node: u32) -> &[Channel]
+    requires { StandByOrigin channels.now }
+    ensures { result.now ≡ channels_from channels.now node }
+{
+    let first = channels.partition_point(|c| c.from < node);
+    let end = channels.partition_point(|c| c.from <= node);
+    &channels[first..end]
+}
+
+/// The ports of each channel that comes from a node.
 pub fn ports_of(
     alloc: Global,
     channels: &[Channel],
     node: u32,
 ) -> Result<Vec<Items<u32>>, AllocError>
+    requires { StandByOrigin channels.now }
     ensures { IfOk result (λ ports. ports.items ≡ map (λ c. c.ports) (channels_from channels.now node)) }
 {
+    let found = those_from(channels, node);
     let mut ports = Vec::new(alloc);
-    for channel in channels {
-        if channel.from == node {
-            ports.push(Items::from_vec(copy_of(alloc, channel.ports.as_slice())?))?;
-        }
+    for channel in found {
+        ports.push(Items::from_vec(copy_of(alloc, channel.ports.as_slice())?))?;
     }
     Ok(ports)
 }

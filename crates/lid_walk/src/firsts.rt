@@ -6,6 +6,7 @@ ghost use Rattle.lid_system.specs.Systems.{IsWellFormed};
 ghost use Rattle.lid_stations.specs.Placements.{station_count, Fits};
 ghost use Rattle.lid_walk_machine.specs.Setups.{plan};
 ghost use Rattle.lid_shell_laws.specs.Setups.{Setup, IsInputRow};
+ghost use Rattle.lid_shell_nodes.specs.Placing.{ArePlacesOf};
 ghost use Rattle.lid_walk.specs.Setups.{IsSetupOf};
 ghost use Rattle.lid_walk.specs.Firsts.{first_tokens};
 ghost use Rattle.lid_walk.specs.Inside.{AreWritten, HasFirsts, BeginsWith};
@@ -13,6 +14,7 @@ ghost use Rattle.lid_walk.specs.Inside.{AreWritten, HasFirsts, BeginsWith};
 use crate::ends::stations_of;
 use crate::tokens::node_tokens;
 use lid_shell::actors_go_by_rules;
+use lid_shell_nodes::TokenPlaces;
 use lid_station::Side;
 use lid_stations::{Placed, Placement};
 use lid_system::{System, systems_have_one_table};
@@ -35,10 +37,12 @@ fn write_tokens(stations: &[u32], tokens: &[u32], firsts: &mut [Option<u32>])
 fn write_node(
     alloc: Global,
     placed: &Placed<'_>,
+    places: &TokenPlaces,
     node: u32,
     row: &[bool],
     firsts: &mut [Option<u32>],
 ) -> Result<(), AllocError>
+    requires places { ArePlacesOf placed.now.system places.now }
     requires node { node + 1 < length placed.now.system.nodes }
     requires row { IsInputRow placed.now.system row.now }
     requires many { length firsts.old ≡ station_count placed.now.placement.relays }
@@ -48,7 +52,7 @@ fn write_node(
     actors_go_by_rules();
     let stations = stations_of(alloc, placed, node, Side::Fill)?;
     let listed = stations.as_slice();
-    let tokens = node_tokens(alloc, placed.system, node, row, listed.len())?;
+    let tokens = node_tokens(alloc, placed.system, places, node, row, listed.len())?;
     write_tokens(listed, tokens.as_slice(), firsts);
     Ok(())
 }
@@ -66,8 +70,9 @@ fn write_nodes(
     ensures firsts { OnOk result ((m : Setup) → BeginsWith m placed.now row.now → HasFirsts m 0 firsts.old
         → HasFirsts m (length placed.now.system.nodes - 1) firsts.new) }
 {
+    let places = TokenPlaces::of(alloc, placed.system)?;
     for node in 0..placed.system.nodes.len() as u32 - 1 {
-        write_node(alloc, placed, node, row, firsts)?;
+        write_node(alloc, placed, &places, node, row, firsts)?;
     }
     Ok(())
 }

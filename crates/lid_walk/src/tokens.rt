@@ -6,10 +6,11 @@ ghost use Rattle.lid_system.specs.Systems.{Point, IsWellFormed};
 ghost use Rattle.lid_system.specs.Tables.{IsTable};
 ghost use Rattle.lid_shell_laws.specs.Setups.{IsInputRow};
 ghost use Rattle.lid_shell_nodes.specs.Nodes.{tokens_from};
+ghost use Rattle.lid_shell_nodes.specs.Placing.{ArePlacesOf};
 ghost use Rattle.lid_shell_nodes.specs.Wiring.{ports_from};
 ghost use Rattle.lid_walk.specs.Inside.{AreTokensOf};
 
-use lid_shell_nodes::{ShellNode, SourceNode};
+use lid_shell_nodes::{ShellNode, SourceNode, TokenPlaces};
 use lid_system::System;
 use std::alloc::{AllocError, Global};
 
@@ -36,16 +37,18 @@ fn source_tokens(
 fn shell_tokens(
     alloc: Global,
     system: &System,
+    places: &TokenPlaces,
     node: u32,
     many: usize,
 ) -> Result<Vec<u32>, AllocError>
     requires system { IsWellFormed system.now }
+    requires places { ArePlacesOf system.now places.now }
     requires shell { (0 < node) × (node + 1 < length system.now.nodes) }
     requires many { many ≡ length (ports_from system.now node) }
     ensures many { IfOk result (λ tokens. length tokens.items ≡ many) }
     ensures tokens { IfOk result (λ tokens. (row : List Bool) → AreTokensOf system.now node row tokens.items) }
 {
-    let mut shell = ShellNode::of(alloc, system, node)?;
+    let mut shell = ShellNode::at(alloc, system, places, node)?;
     let mut tokens = Vec::from_elem(alloc, 0u32, many)?;
     shell.show(tokens.as_mut_slice());
     Ok(tokens)
@@ -55,11 +58,13 @@ fn shell_tokens(
 pub(crate) fn node_tokens(
     alloc: Global,
     system: &System,
+    places: &TokenPlaces,
     node: u32,
     row: &[bool],
     many: usize,
 ) -> Result<Vec<u32>, AllocError>
     requires system { IsWellFormed system.now }
+    requires places { ArePlacesOf system.now places.now }
     requires node { node + 1 < length system.now.nodes }
     requires row { IsInputRow system.now row.now }
     requires many { many ≡ length (ports_from system.now node) }
@@ -69,6 +74,6 @@ pub(crate) fn node_tokens(
     if node == 0 {
         source_tokens(alloc, system, row, many)
     } else {
-        shell_tokens(alloc, system, node, many)
+        shell_tokens(alloc, system, places, node, many)
     }
 }

@@ -2,14 +2,13 @@ use Rattle.std.proofs.Common.{◌≡◌, ◌<◌, ◌-◌, ◌+◌, ℕ, List, l
 use Rattle.std.specs.List.{AllByRecursion}
 use Rattle.std.proofs.lemmas.Option.{get_or_from_slice_get}
 use Rattle.lid_system.specs.declared.System.{System}
-use Rattle.lid_system.specs.declared.Channel.{Channel}
 use Rattle.lid_system.specs.declared.InBit.{InBit}
 use Rattle.lid_system.specs.declared.Node.{Node}
 use Rattle.lid_system.specs.declared.Node.TheVariants.{Sink}
 use Rattle.lid_system.specs.Systems.{IsWellFormed}
-use Rattle.lid_shell_nodes.specs.Nodes.{channels_to}
-use Rattle.lid_shell_nodes.specs.Wiring.{SinkView, read_of, IsSinkOf}
-use Rattle.lid_shell_nodes.specs.Inside.{ReadsBelow}
+use Rattle.lid_shell_nodes.specs.Wiring.{SinkView, IsSinkOf}
+use Rattle.lid_shell_nodes.specs.Inside.{read_in, ReadsBelow}
+use Rattle.lid_shell_nodes.proofs.Places.{reads_are}
 use Rattle.lid_shell_nodes.proofs.Tokens.{reads_placed, node_here, sink_within}
 use Rattle.lid_shell_nodes.proofs.sink.SinkNode.of.Goals as goal
 
@@ -19,14 +18,21 @@ last_here s well n long seen same node x read is =
     let below : n - 1 < length s.nodes = omega arith in
     node_here s.nodes seen (n - 1) node x same below read is
 
+pub inputs_of-requires-clause-node : goal.inputs_of-requires-clause-node
+inputs_of-requires-clause-node c =
+    let many = c.in_ok-places.ensures.nodes in
+    let long = c.len-last.ensures in
+    let least = c.requires.least in
+    omega arith
+
 pub inputs_of-requires-clause-placed : goal.inputs_of-requires-clause-placed
 inputs_of-requires-clause-placed c =
     let s = c.args.system.now in
     let v = c.len-last.result - 1 in
     let x = Sink c.in-Sink.columns c.in-Sink.ins in
     let here = last_here s c.requires c.len-last.result c.len-last.ensures c.as_slice.result.now c.as_slice.ensures c.index-as_slice-last.result x c.index-as_slice-last.is c.in-Sink.is in
-    subst (λ (ins : List InBit). AllByRecursion (ReadsBelow (length c.as_slice-channels.result.now)) ins) (sym c.as_slice-in-Sink.ensures)
-    (subst (λ (cs : List Channel). AllByRecursion (ReadsBelow (length cs)) c.in-Sink.ins) (sym c.as_slice-channels.ensures)
+    subst (λ (ins : List InBit). AllByRecursion (ReadsBelow (length c.in_ok-places.places.places.items)) ins) (sym c.as_slice-in-Sink.ensures)
+    (subst (λ (n : ℕ). AllByRecursion (ReadsBelow n) c.in-Sink.ins) (sym c.in_ok-places.ensures.placed.many)
     (reads_placed s c.requires v c.in-Sink.ins (c.requires.each_node v x here).reads))
 
 pub unreachable-requires : goal.unreachable-requires
@@ -48,9 +54,16 @@ invariant_of-result c =
     let x = Sink c.in-Sink.columns c.in-Sink.ins in
     let here = last_here s c.requires c.len-last.result c.len-last.ensures c.as_slice.result.now c.as_slice.ensures c.index-as_slice-last.result x c.index-as_slice-last.is c.in-Sink.is in
     let i = c.in_ok-inputs-in-Sink in
+    let places = c.in_ok-places.places in
+    let placed = c.in_ok-places.ensures.placed in
+    let many = c.in_ok-places.ensures.nodes in
+    let size = c.len-last.ensures in
+    let some = c.requires.least in
+    let below : v < length places.taken.items = omega arith in
     sink_within s c.requires v c.in-Sink.columns c.in-Sink.ins here i.inputs.taken i.inputs.reads.items
-    (i.ensures.taken ∙ ap (λ (cs : List Channel). length (channels_to cs v)) c.as_slice-channels.ensures)
-    (i.ensures.reads ∙ ap (λ (cs : List Channel). map (read_of cs v) c.as_slice-in-Sink.result.now) c.as_slice-channels.ensures ∙ ap (map (read_of s.channels v)) c.as_slice-in-Sink.ensures)
+    (i.ensures.taken ∙ placed.counts v below)
+    (i.ensures.reads ∙ ap (map (read_in places.places.items)) c.as_slice-in-Sink.ensures
+    ∙ reads_are s v places.places.items places.taken.items placed c.in-Sink.ins (c.requires.each_node v x here).reads)
 
 pub returns : goal.returns
 returns c =
@@ -59,6 +72,12 @@ returns c =
     let x = Sink c.in-Sink.columns c.in-Sink.ins in
     let here = last_here s c.requires c.len-last.result c.len-last.ensures c.as_slice.result.now c.as_slice.ensures c.index-as_slice-last.result x c.index-as_slice-last.is c.in-Sink.is in
     let i = c.in_ok-inputs-in-Sink in
+    let places = c.in_ok-places.places in
+    let placed = c.in_ok-places.ensures.placed in
+    let many = c.in_ok-places.ensures.nodes in
+    let size = c.len-last.ensures in
+    let some = c.requires.least in
+    let below : v < length places.taken.items = omega arith in
     let seen : SinkView = record { taken = i.inputs.taken; reads = i.inputs.reads.items } in
     let long = c.len-last.ensures in
     let least = c.requires.least in
@@ -69,6 +88,8 @@ returns c =
       ins = c.in-Sink.ins;
       last = end;
       node = here;
-      many = i.ensures.taken ∙ ap (λ (cs : List Channel). length (channels_to cs v)) c.as_slice-channels.ensures;
-      reading = i.ensures.reads ∙ ap (λ (cs : List Channel). map (read_of cs v) c.as_slice-in-Sink.result.now) c.as_slice-channels.ensures ∙ ap (map (read_of s.channels v)) c.as_slice-in-Sink.ensures;
+      many = i.ensures.taken ∙ placed.counts v below;
+      reading =
+          i.ensures.reads ∙ ap (map (read_in places.places.items)) c.as_slice-in-Sink.ensures
+          ∙ reads_are s v places.places.items places.taken.items placed c.in-Sink.ins (c.requires.each_node v x here).reads;
     })

@@ -4,8 +4,13 @@ use Rattle.lid_system.specs.declared.Channel.{Channel}
 use Rattle.lid_system.specs.declared.Node.TheVariants.{Source}
 use Rattle.lid_shell_nodes.specs.Nodes.{channels_from}
 use Rattle.lid_shell_nodes.specs.Wiring.{IsPackOf}
+use Rattle.lid_shell_nodes.specs.Inside.{StandByOrigin}
+use Rattle.lid_shell_nodes.proofs.Origins.{stand_by_origin}
 use Rattle.lid_shell_nodes.proofs.Tokens.{packs_are, source_ports, node_here}
 use Rattle.lid_shell_nodes.proofs.source.SourceNode.of.Goals as goal
+
+pub ports_of-requires : goal.ports_of-requires
+ports_of-requires c = subst StandByOrigin (sym c.as_slice-2.ensures) (stand_by_origin c.args.system.now c.requires)
 
 pub invariant_of-result : goal.invariant_of-result
 invariant_of-result c =

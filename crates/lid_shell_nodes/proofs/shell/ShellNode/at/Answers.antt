@@ -2,7 +2,7 @@ use Rattle.std.proofs.Common.{List, get_or, ◌∙◌, ap}
 use Rattle.std.proofs.lemmas.Option.{get_or_from_slice_get}
 use Rattle.lid_system.specs.declared.Node.{Node}
 use Rattle.lid_system.specs.declared.Node.TheVariants.{Shell}
-use Rattle.lid_shell_nodes.proofs.shell.ShellNode.of.Goals as goal
+use Rattle.lid_shell_nodes.proofs.shell.ShellNode.at.Goals as goal
 
 pub unreachable-requires : goal.unreachable-requires
 unreachable-requires c =
