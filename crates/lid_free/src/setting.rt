@@ -18,7 +18,7 @@ use lid_free_crew::{Worker, deal, hire};
 use lid_graph::Edge;
 use lid_shell::Actor;
 use lid_station::PlainBoard;
-use lid_stations::{Placement, marking};
+use lid_stations::{Placed, Placement, marking};
 use lid_system::System;
 use lid_texts::Rows;
 use lid_walk::{all_actors, first_tokens};
@@ -33,32 +33,21 @@ pub(crate) struct Boards {
 }
 
 /// The boards of a run at its start.
-fn start_boards(
-    alloc: Global,
-    system: &System,
-    placement: &Placement,
-    rows: &Rows,
-) -> Result<Boards, AllocError>
-    requires system { IsWellFormed system.now }
-    requires fits { Fits system.now placement.now }
+fn start_boards(alloc: Global, placed: &Placed<'_>, rows: &Rows) -> Result<Boards, AllocError>
     requires few { length rows.now.bits ≤ 1000000 }
-    requires wide { AllByRecursion (IsInputRow system.now) rows.now.bits }
-    ensures { IfOk result (λ boards. (m : Setup) → IsSetupOf m system.now placement.now rows.now.bits → AreBoards m boards) }
+    requires wide { AllByRecursion (IsInputRow placed.now.system) rows.now.bits }
+    ensures { IfOk result (λ boards. (m : Setup) → IsSetupOf m placed.now.system placed.now.placement rows.now.bits → AreBoards m boards) }
 {
     runs_go_by_rules();
-    let firsts = first_tokens(alloc, system, placement, rows)?;
+    let firsts = first_tokens(alloc, placed, rows)?;
     let course = StrictCourse {
-        system,
-        placement,
+        system: placed.system,
+        placement: placed.placement,
         rows,
     };
-    let plain = PlainBoard::start(alloc, firsts.as_slice(), placement.caps.as_slice())?;
-    let (board, keeper) = Board::start(
-        alloc,
-        firsts.as_slice(),
-        placement.caps.as_slice(),
-        &course,
-    )?;
+    let caps = placed.placement.caps.as_slice();
+    let plain = PlainBoard::start(alloc, firsts.as_slice(), caps)?;
+    let (board, keeper) = Board::start(alloc, firsts.as_slice(), caps, &course)?;
     Ok(Boards {
         board,
         keeper,
@@ -77,15 +66,13 @@ fn from_at(edges: &[Edge], number: usize) -> u32
 }
 
 /// The actor that owns each end of a station: the one that fills it, and the one that drains it.
-fn owners_of(alloc: Global, system: &System, placement: &Placement) -> Result<Vec<u32>, AllocError>
-    requires system { IsWellFormed system.now }
-    requires fits { Fits system.now placement.now }
-    ensures { IfOk result (λ owners. AreOwners system.now placement.now (2 * length placement.now.caps) owners.items) }
+fn owners_of(alloc: Global, placed: &Placed<'_>) -> Result<Vec<u32>, AllocError>
+    ensures { IfOk result (λ owners. AreOwners placed.now.system placed.now.placement (2 * length placed.now.placement.caps) owners.items) }
 {
     runs_go_by_rules();
-    let graph = marking(alloc, system, placement)?;
+    let graph = marking(alloc, placed.system, placed.placement)?;
     let mut owners = Vec::new(alloc);
-    for end in 0..2 * placement.caps.len() {
+    for end in 0..2 * placed.placement.caps.len() {
         owners.push(from_at(graph.edges.as_slice(), end))?;
     }
     Ok(owners)
@@ -145,23 +132,22 @@ impl Crew<'_> {
 /// The workers of a run, each with its share of the ends and of the actors. The keeper has given all ends.
 fn start_crew<'r>(
     alloc: Global,
-    system: &System,
-    placement: &Placement,
+    placed: &Placed<'_>,
     rows: &'r Rows,
     boards: &mut Boards,
     workers: u32,
 ) -> Result<Crew<'r>, AllocError>
-    requires system { IsWellFormed system.now }
-    requires fits { Fits system.now placement.now }
     requires few { length rows.now.bits ≤ 1000000 }
-    requires wide { AllByRecursion (IsInputRow system.now) rows.now.bits }
+    requires wide { AllByRecursion (IsInputRow placed.now.system) rows.now.bits }
     requires some { 0 < workers }
-    requires boards { (m : Setup) → IsSetupOf m system.now placement.now rows.now.bits → AreBoards m boards.old }
-    ensures given { OnOk result ((m : Setup) → IsSetupOf m system.now placement.now rows.now.bits → AreEndsGiven m boards.new) }
-    ensures crew { IfOk result (λ crew. (m : Setup) → IsSetupOf m system.now placement.now rows.now.bits → IsCrewOf m boards.new.board workers crew) }
+    requires boards { (m : Setup) → IsSetupOf m placed.now.system placed.now.placement rows.now.bits → AreBoards m boards.old }
+    ensures given { OnOk result ((m : Setup) → IsSetupOf m placed.now.system placed.now.placement rows.now.bits → AreEndsGiven m boards.new) }
+    ensures crew { IfOk result (λ crew. (m : Setup) → IsSetupOf m placed.now.system placed.now.placement rows.now.bits
+        → IsCrewOf m boards.new.board workers crew) }
 {
     runs_go_by_rules();
-    let owners = owners_of(alloc, system, placement)?;
+    let _ = &placed.system;
+    let owners = owners_of(alloc, placed)?;
     let mut hired = hire(
         alloc,
         &boards.board,
@@ -169,7 +155,7 @@ fn start_crew<'r>(
         owners.as_slice(),
         workers,
     )?;
-    let dealt = all_actors(alloc, system, placement, rows)?;
+    let dealt = all_actors(alloc, placed, rows)?;
     let actors = dealt.len();
     deal(dealt, hired.as_mut_slice())?;
     Ok(Crew {
@@ -211,8 +197,9 @@ pub fn set_out<'r>(
     ensures set { IfOk result (λ setting. (m : Setup) → IsSetupOf m system.now placement.now rows.now.bits → IsSetOut m workers setting) }
 {
     runs_go_by_rules();
-    let mut boards = start_boards(alloc, system, placement, rows)?;
-    let crew = start_crew(alloc, system, placement, rows, &mut boards, workers)?;
+    let placed = Placed { system, placement };
+    let mut boards = start_boards(alloc, &placed, rows)?;
+    let crew = start_crew(alloc, &placed, rows, &mut boards, workers)?;
     let room = crew.room(alloc, workers, placement.caps.len())?;
     Ok(Setting {
         boards,

@@ -2,8 +2,7 @@
 
 ghost use Rattle.std.specs.Prelude.{◌≡◌, ◌≤◌, ◌<◌, ◌+◌, ◌-◌, ◌^◌, ℕ, length, map, replicate, None, IfOk, IfSome, OnOk};
 ghost use Rattle.std.specs.List.{All, AllByRecursion};
-ghost use Rattle.lid_system.specs.Systems.{IsWellFormed};
-ghost use Rattle.lid_stations.specs.Placements.{station_count, Fits};
+ghost use Rattle.lid_stations.specs.Placements.{station_count};
 ghost use Rattle.lid_walk_machine.specs.Setups.{plan};
 ghost use Rattle.lid_shell_laws.specs.Setups.{Setup, IsInputRow};
 ghost use Rattle.lid_shell_nodes.specs.Placing.{ArePlacesOf};
@@ -16,8 +15,8 @@ use crate::tokens::node_tokens;
 use lid_shell::actors_go_by_rules;
 use lid_shell_nodes::TokenPlaces;
 use lid_station::Side;
-use lid_stations::{Placed, Placement};
-use lid_system::{System, systems_have_one_table};
+use lid_stations::Placed;
+use lid_system::systems_have_one_table;
 use lid_texts::Rows;
 use std::alloc::{AllocError, Global};
 
@@ -122,25 +121,6 @@ fn tokens_at_start(
 /// # Errors
 /// Memory is wanting.
 pub fn first_tokens(
-    alloc: Global,
-    system: &System,
-    placement: &Placement,
-    rows: &Rows,
-) -> Result<Vec<Option<u32>>, AllocError>
-    requires system { IsWellFormed system.now }
-    requires fits { Fits system.now placement.now }
-    requires few { length rows.now.bits ≤ 1000000 }
-    requires wide { AllByRecursion (IsInputRow system.now) rows.now.bits }
-    ensures are { IfOk result (λ firsts. (m : Setup) → IsSetupOf m system.now placement.now rows.now.bits → firsts.items ≡ first_tokens (plan m)) }
-    ensures many { IfOk result (λ firsts. length firsts.items ≡ length placement.now.caps) }
-    ensures small { IfOk result (λ firsts. All (λ first. IfSome first (λ token. token < 2 ^ 31)) firsts.items) }
-{
-    let placed = Placed { system, placement };
-    placed_tokens(alloc, &placed, rows)
-}
-
-/// The same of a placed system.
-pub(crate) fn placed_tokens(
     alloc: Global,
     placed: &Placed<'_>,
     rows: &Rows,

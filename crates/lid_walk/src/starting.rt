@@ -7,7 +7,7 @@ ghost use Rattle.lid_walk_machine.specs.Machine.{begun};
 ghost use Rattle.lid_walk.specs.Setups.{IsSetupOf};
 ghost use Rattle.lid_walk.specs.Walks.{IsBoard};
 
-use crate::firsts::placed_tokens;
+use crate::firsts::first_tokens;
 use lid_station::PlainBoard;
 use lid_stations::Placed;
 use lid_texts::Rows;
@@ -24,6 +24,6 @@ pub(crate) fn board_of(
     ensures { IfOk result (λ board. (m : Setup) → IsSetupOf m placed.now.system placed.now.placement rows.now.bits
         → IsBoard m begun board.pairs.items) }
 {
-    let firsts = placed_tokens(alloc, placed, rows)?;
+    let firsts = first_tokens(alloc, placed, rows)?;
     PlainBoard::start(alloc, firsts.as_slice(), placed.placement.caps.as_slice())
 }

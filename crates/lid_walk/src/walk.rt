@@ -14,7 +14,7 @@ ghost use Rattle.lid_walk.specs.Setups.{IsSetupOf};
 ghost use Rattle.lid_walk.specs.Actors.{AreActors};
 ghost use Rattle.lid_walk.specs.Walks.{IsBoard, Walks, IsSetupWalk, HasActor, HasActorAtRest, IsAtRest, firings_between};
 
-use crate::actors::placed_actors;
+use crate::actors::all_actors;
 use crate::starting::board_of;
 use lid_base::{Answer, Items};
 use lid_shell::{Actor, TurnEnd};
@@ -60,7 +60,7 @@ impl<'r> Walk<'r> {
         systems_have_one_table();
         let placed = Placed { system, placement };
         let board = board_of(alloc, &placed, rows)?;
-        let actors = placed_actors(alloc, &placed, rows)?;
+        let actors = all_actors(alloc, &placed, rows)?;
         Ok(Walk::adopt(board, actors))
     }
 

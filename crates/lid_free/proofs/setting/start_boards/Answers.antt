@@ -1,6 +1,7 @@
-use Rattle.std.proofs.Common.{◌≡◌, ℕ, List, sym, ◌∙◌, ap}
-use Rattle.std.specs.Prelude.{Option}
-use Rattle.lid_shell_laws.specs.Setups.{Setup}
+use Rattle.std.proofs.Common.{◌≡◌, sym, ◌∙◌, ap, subst}
+use Rattle.std.specs.List.{AllByRecursion}
+use Rattle.lid_stations.specs.Placed.{Placing}
+use Rattle.lid_shell_laws.specs.Setups.{IsInputRow}
 use Rattle.lid_walk_machine.specs.Setups.{plan}
 use Rattle.lid_walk.specs.Firsts.{first_tokens}
 use Rattle.lid_walk.specs.Setups.{IsSetupOf}
@@ -10,21 +11,29 @@ use Rattle.lid_free.proofs.setting.start_boards.Goals as goal
 
 pub start-requires-2-clause-course : goal.start-requires-2-clause-course
 start-requires-2-clause-course c =
-    let q = c.requires in
-    let m = setup_of c.args.system.now c.args.placement.now c.args.rows.now.bits q.system q.fits q.few q.wide (c.runs_go_by_rules.ensures.some c.args.system.now q.system) in
-    begins_so m.0 m.1.rules c.as_slice-3.result.now _ (c.as_slice-3.ensures.value ∙ c.in_ok-firsts.ensures.are m.0 m.1)
-    (streams_are m.0 c.args.system.now c.args.placement.now c.args.rows.now.bits m.1 _ _)
+    let s = c.placed.inside.system.now in
+    let p = c.placed.inside.placement.now in
+    let rows = c.args.rows.now.bits in
+    let is = c.placed.invariant in
+    let wide = subst (λ (v : Placing). AllByRecursion (IsInputRow v.system) rows) (sym c.placed.view_is) c.requires.wide in
+    let m = setup_of s p rows is.formed is.fits c.requires.few wide (c.runs_go_by_rules.ensures.some s is.formed) in
+    let of = subst (λ (v : Placing). IsSetupOf m.0 v.system v.placement rows) c.placed.view_is m.1 in
+    begins_so m.0 m.1.rules c.as_slice-2.result.now _ (c.as_slice-2.ensures.value ∙ c.in_ok-firsts.ensures.are m.0 of) (streams_are m.0 s p rows m.1 _ _)
 
 pub returns : goal.returns
 returns c = λ m of.
+    let s = c.placed.inside.system.now in
+    let p = c.placed.inside.placement.now in
+    let rows = c.args.rows.now.bits in
+    let inside = subst (λ (v : Placing). IsSetupOf m v.system v.placement rows) (sym c.placed.view_is) of in
     let firsts : c.as_slice.result.now ≡ first_tokens (plan m) = c.as_slice.ensures.value ∙ c.in_ok-firsts.ensures.are m of in
-    let firsts_too : c.as_slice-3.result.now ≡ first_tokens (plan m) = c.as_slice-3.ensures.value ∙ c.in_ok-firsts.ensures.are m of in
-    let caps : c.args.placement.now.caps ≡ m.placement.caps = ap (λ p. p.caps) (sym of.placement) in
+    let firsts_too : c.as_slice-2.result.now ≡ first_tokens (plan m) = c.as_slice-2.ensures.value ∙ c.in_ok-firsts.ensures.are m of in
+    let caps : c.as_slice-caps.result.now ≡ m.placement.caps = c.as_slice-caps.ensures ∙ ap (λ p. p.caps) (sym inside.placement) in
     record {
-      board = started_so m of.rules c.as_slice-3.result.now c.as_slice-4.result.now _ c.in_ok-board.board c.in_ok-board.keeper firsts_too (c.as_slice-4.ensures ∙ caps)
-          (streams_are m c.args.system.now c.args.placement.now c.args.rows.now.bits of _ _)
+      board = started_so m of.rules c.as_slice-2.result.now c.as_slice-caps.result.now _ c.in_ok-board.board c.in_ok-board.keeper firsts_too caps
+          (streams_are m s p rows inside _ _)
           c.in_ok-board.ensures.many c.in_ok-board.ensures.all c.in_ok-board.ensures.fills c.in_ok-board.ensures.drains c.in_ok-board.ensures.stands;
       of = c.in_ok-board.ensures.of;
       all = c.in_ok-board.ensures.all;
-      plain = plain_so m of.rules c.as_slice.result.now c.as_slice-2.result.now c.in_ok-plain.plain.pairs.items firsts (c.as_slice-2.ensures ∙ caps) c.in_ok-plain.ensures.started;
+      plain = plain_so m of.rules c.as_slice.result.now c.as_slice-caps.result.now c.in_ok-plain.plain.pairs.items firsts caps c.in_ok-plain.ensures.started;
     }

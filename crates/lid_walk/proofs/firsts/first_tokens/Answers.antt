@@ -3,7 +3,7 @@ use Rattle.std.proofs.Common.{subst}
 use Rattle.lid_base.proofs.Results.{if_ok}
 use Rattle.lid_stations.specs.Placed.{Placing, IsPlaced}
 use Rattle.lid_walk.proofs.Opening.{as_many_firsts, small_firsts}
-use Rattle.lid_walk.proofs.firsts.placed_tokens.Goals as goal
+use Rattle.lid_walk.proofs.firsts.first_tokens.Goals as goal
 
 pub returns-clause-many : goal.returns-clause-many
 returns-clause-many c =
