@@ -4,8 +4,10 @@
 mod laws;
 mod layout;
 mod simulation;
+mod source;
 mod whole;
 
 pub use laws::accepted_have_one_table;
 pub use simulation::simulate;
-pub use whole::strict;
+pub use source::RowSource;
+pub use whole::{strict, strict_packed};

@@ -1,6 +1,6 @@
 //! Runs of networks that are laid out.
 
-ghost use Rattle.std.specs.Prelude.{◌≡◌, ◌+◌, ◌<◌, ℕ, Bool, [], length, map, IfOk, OnOk};
+ghost use Rattle.std.specs.Prelude.{◌≡◌, ◌+◌, ◌<◌, ℕ, Bool, List, [], length, map, slice_index_or, IfOk, OnOk};
 ghost use Rattle.std.specs.List.{AllByRecursion};
 ghost use Rattle.lid_design.specs.Network.{Table, IsStrict};
 ghost use Rattle.lid_design.specs.Flat.{latch_init, latch_input};
@@ -13,39 +13,40 @@ ghost use Rattle.lid_strict.specs.Networks.{driver_list, reads_of, AreHeldBelow,
 ghost use Rattle.lid_strict.specs.Layouts.{IsRunnable, IsEngineOf, FitsRow, FitsTable};
 
 use crate::layout::{Layout, lay_out};
-use lid_base::Items;
+use crate::source::RowSource;
 use lid_check_elab::ColumnDriver;
 use lid_design::Design;
 use lid_strict_engine::{first_state, put_bits, put_state, take_state};
 use lid_strict_widths::{ByWidth, by_level, by_width, settle_by_width};
+use lid_texts_packed::PackedRows;
 use std::alloc::{AllocError, Global};
 
 /// The bit of a number, and 0 where there is none.
-fn bit_of(bits: &[bool], number: u32) -> bool
+pub(crate) fn bit_of(bits: &[bool], number: u32) -> bool
     ensures { result ≡ bit_at bits.now number }
 {
     bits.get(number as usize).copied().unwrap_or(false)
 }
 
-/// Writes the bits of some places of a row, and 0 where it has none.
-fn read_row(row: &[bool], places: &[u32], into: &mut [bool])
-    requires { length into.old ≡ length places.now }
-    ensures { into.new ≡ map (bit_at row.now) places.now }
+/// Writes the bits of some places of an input row, and 0 where it has none.
+fn read_row<R: RowSource>(rows: &R, row: usize, places: &[u32], into: &mut [bool])
+    requires row { row < length (R.rows rows.now) }
+    requires wide { length into.old ≡ length places.now }
+    ensures { into.new ≡ map (bit_at (slice_index_or (R.rows rows.now) row [])) places.now }
 {
     for i in 0..places.len() {
-        into[i] = bit_of(row, places[i]);
+        into[i] = rows.bit(row, places[i]);
     }
 }
 
-/// The bits of some numbers.
-fn gather(alloc: Global, bits: &[bool], numbers: &[u32]) -> Result<Items<bool>, AllocError>
-    ensures { IfOk result (λ row. row ≡ map (bit_at bits.now) numbers.now) }
+/// Writes the bits of some numbers.
+fn pick(bits: &[bool], numbers: &[u32], into: &mut [bool])
+    requires { length into.old ≡ length numbers.now }
+    ensures { into.new ≡ map (bit_at bits.now) numbers.now }
 {
-    let mut row = Vec::with_capacity(alloc, numbers.len())?;
-    for number in numbers {
-        row.push(bit_of(bits, *number))?;
+    for i in 0..numbers.len() {
+        into[i] = bit_of(bits, numbers[i]);
     }
-    Ok(Items::from_vec(row))
 }
 
 /// The program of a layout as it is run: by level and width.
@@ -58,30 +59,28 @@ fn engine_of(layout: &Layout) -> Result<ByWidth, AllocError>
     by_width(program, order)
 }
 
-/// Fills the bits of a row, from what latches hold, and moves that on. It is compiled by itself, since
+/// Fills the bits of a row, from its inputs and what latches hold, and moves that on. It is compiled by itself, since
 /// such a loop was once slower when it was inlined into its callers.
 #[inline(never)]
 fn run_row(
     layout: &Layout,
     engine: &ByWidth,
-    row: &[bool],
+    inputs: &[bool],
     state: &mut [bool],
-    inputs: &mut [bool],
     bits: &mut [bool],
 )
     requires runnable { IsRunnable layout.now }
     requires engine { IsEngineOf layout.now engine.now }
+    requires inputs { length inputs.now ≡ length layout.now.places.items }
     requires state { length state.old ≡ length layout.now.latches.items }
-    requires inputs { length inputs.old ≡ length layout.now.places.items }
     requires bits { length bits.old ≡ layout.now.program.nets }
     ensures state_size { length state.new ≡ length layout.now.latches.items }
-    ensures inputs_size { length inputs.new ≡ length layout.now.places.items }
     ensures bits_size { length bits.new ≡ layout.now.program.nets }
     ensures state { state.new ≡ map (bit_at bits.new) (map latch_input layout.now.latches.items) }
-    ensures bits { (f : ℕ → Bool) → FitsRow layout.now row.now state.old f → (k : ℕ) → k < layout.now.program.nets → bit_at bits.new k ≡ f k }
+    ensures bits { (row : List Bool) (f : ℕ → Bool) → inputs.now ≡ map (bit_at row) layout.now.places.items → FitsRow layout.now row state.old f
+        → (k : ℕ) → k < layout.now.program.nets → bit_at bits.new k ≡ f k }
 {
     let latches = layout.latches.as_slice();
-    read_row(row, layout.places.as_slice(), inputs);
     put_state(bits, latches, state);
     put_bits(bits, layout.ins.as_slice(), inputs);
     settle_by_width(engine, bits);
@@ -89,114 +88,111 @@ fn run_row(
 }
 
 /// What is run: a network that is laid out, its program as it is run, the numbers whose bits are asked for, and the rows.
-#[derive(Clone, Copy)]
-struct Simulation<'r> {
+#[derive(Drop)]
+struct Simulation<'r, R> {
     layout: &'r Layout,
     engine: &'r ByWidth,
     outs: &'r [u32],
-    rows: &'r [Items<bool>],
+    rows: &'r R,
 }
 
 /// Runs a network row by row, in an order in which each number stands after all that it reads, and
 /// answers the bits of some numbers in each row.
-pub fn simulate(
+pub fn simulate<R: RowSource>(
     alloc: Global,
     design: &Design,
     drivers: &[ColumnDriver],
     order: &[u32],
     outs: &[u32],
-    rows: &[Items<bool>],
-) -> Result<Items<Items<bool>>, AllocError>
+    rows: &R,
+) -> Result<PackedRows, AllocError>
     requires ordered { IsOrder (reads_of (map (shown_driver design.now) drivers.now)) order.now }
     requires covers { AllByRecursion (HasCover design.now) drivers.now }
     requires held { AreHeldBelow (map (shown_driver design.now) drivers.now) }
     requires outs { AllByRecursion (λ k. k < length drivers.now) outs.now }
-    ensures { IfOk result (λ out. (b : Table ℕ) → IsStrict (driver_list (map (shown_driver design.now) drivers.now)) rows.now b
-        → out ≡ rows_at outs.now b (length rows.now)) }
+    ensures { IfOk result (λ out. (b : Table ℕ) → IsStrict (driver_list (map (shown_driver design.now) drivers.now)) (R.rows rows.now) b
+        → out.rows ≡ rows_at outs.now b (length (R.rows rows.now))) }
 {
     let layout = lay_out(alloc, design, drivers, order)?;
     run_laid_out(alloc, &layout, outs, rows)
 }
 
 /// Runs what is laid out row by row, and answers the bits of some numbers in each row.
-fn run_laid_out(
+fn run_laid_out<R: RowSource>(
     alloc: Global,
     layout: &Layout,
     outs: &[u32],
-    rows: &[Items<bool>],
-) -> Result<Items<Items<bool>>, AllocError>
+    rows: &R,
+) -> Result<PackedRows, AllocError>
     requires runnable { IsRunnable layout.now }
     requires outs { AllByRecursion (λ k. k < layout.now.program.nets) outs.now }
-    ensures { IfOk result (λ out. (b : Table ℕ) → FitsTable layout.now rows.now b → out ≡ rows_at outs.now b (length rows.now)) }
+    ensures { IfOk result (λ out. (b : Table ℕ) → FitsTable layout.now (R.rows rows.now) b → out.rows ≡ rows_at outs.now b (length (R.rows rows.now))) }
 {
     let engine = engine_of(layout)?;
-    let mut results = Vec::with_capacity(alloc, rows.len())?;
     let run = Simulation {
         layout,
         engine: &engine,
         outs,
         rows,
     };
-    run_layout(alloc, run, &mut results)?;
-    Ok(Items::from_vec(results))
+    let mut results = PackedRows::new(alloc, outs.len());
+    run_layout(alloc, &run, &mut results)?;
+    Ok(results)
 }
 
 /// Runs what is laid out row by row from the first bits of its latches on, and pushes the bits of some
 /// numbers in each row, where there are none yet.
-fn run_layout(
+fn run_layout<R: RowSource>(
     alloc: Global,
-    run: Simulation<'_>,
-    results: &mut Vec<Items<bool>>,
+    run: &Simulation<'_, R>,
+    results: &mut PackedRows,
 ) -> Result<(), AllocError>
-    requires runnable { IsRunnable run.layout.now }
-    requires engine { IsEngineOf run.layout.now run.engine.now }
-    requires outs { AllByRecursion (λ k. k < run.layout.now.program.nets) run.outs.now }
-    requires none { results.old.items ≡ [] }
-    ensures { OnOk result ((b : Table ℕ) → FitsTable run.entry.layout.now run.entry.rows.now b
-        → results.new.items ≡ rows_at run.entry.outs.now b (length run.entry.rows.now)) }
+    requires runnable { IsRunnable run.now.layout.now }
+    requires engine { IsEngineOf run.now.layout.now run.now.engine.now }
+    requires outs { AllByRecursion (λ k. k < run.now.layout.now.program.nets) run.now.outs.now }
+    requires none { results.old ≡ record { width = length run.now.outs.now; rows = [] } }
+    ensures { OnOk result ((b : Table ℕ) → FitsTable run.now.layout.now (R.rows run.now.rows.now) b
+        → results.new.rows ≡ rows_at run.now.outs.now b (length (R.rows run.now.rows.now))) }
 {
     let mut state = first_state(alloc, run.layout.latches.as_slice())?;
     let mut inputs = Vec::from_elem(alloc, false, run.layout.places.len())?;
     let mut bits = Vec::from_elem(alloc, false, run.layout.program.nets as usize)?;
+    let mut out = Vec::from_elem(alloc, false, run.outs.len())?;
     run_rows(
-        alloc,
         run,
         state.as_mut_slice(),
         inputs.as_mut_slice(),
         bits.as_mut_slice(),
+        out.as_mut_slice(),
         results,
     )
 }
 
 /// Runs what is laid out row by row, and pushes the bits of some numbers in each row, where there are
 /// none yet.
-fn run_rows(
-    alloc: Global,
-    run: Simulation<'_>,
+fn run_rows<R: RowSource>(
+    run: &Simulation<'_, R>,
     state: &mut [bool],
     inputs: &mut [bool],
     bits: &mut [bool],
-    results: &mut Vec<Items<bool>>,
+    out: &mut [bool],
+    results: &mut PackedRows,
 ) -> Result<(), AllocError>
-    requires runnable { IsRunnable run.layout.now }
-    requires engine { IsEngineOf run.layout.now run.engine.now }
-    requires outs { AllByRecursion (λ k. k < run.layout.now.program.nets) run.outs.now }
-    requires state { state.old ≡ map latch_init run.layout.now.latches.items }
-    requires inputs { length inputs.old ≡ length run.layout.now.places.items }
-    requires bits { length bits.old ≡ run.layout.now.program.nets }
-    requires none { results.old.items ≡ [] }
-    ensures { OnOk result ((b : Table ℕ) → FitsTable run.entry.layout.now run.entry.rows.now b
-        → results.new.items ≡ rows_at run.entry.outs.now b (length run.entry.rows.now)) }
+    requires runnable { IsRunnable run.now.layout.now }
+    requires engine { IsEngineOf run.now.layout.now run.now.engine.now }
+    requires outs { AllByRecursion (λ k. k < run.now.layout.now.program.nets) run.now.outs.now }
+    requires state { state.old ≡ map latch_init run.now.layout.now.latches.items }
+    requires inputs { length inputs.old ≡ length run.now.layout.now.places.items }
+    requires bits { length bits.old ≡ run.now.layout.now.program.nets }
+    requires out { length out.old ≡ length run.now.outs.now }
+    requires none { results.old ≡ record { width = length run.now.outs.now; rows = [] } }
+    ensures { OnOk result ((b : Table ℕ) → FitsTable run.now.layout.now (R.rows run.now.rows.now) b
+        → results.new.rows ≡ rows_at run.now.outs.now b (length (R.rows run.now.rows.now))) }
 {
-    let Simulation {
-        layout,
-        engine,
-        outs,
-        rows,
-    } = run;
-    for t in 0..rows.len() {
-        run_row(layout, engine, rows[t].as_slice(), state, inputs, bits);
-        let out = gather(alloc, bits, outs)?;
+    for t in 0..run.rows.count() {
+        read_row(run.rows, t, run.layout.places.as_slice(), inputs);
+        run_row(run.layout, run.engine, inputs, state, bits);
+        pick(bits, run.outs, out);
         results.push(out)?;
     }
     Ok(())

@@ -5,10 +5,12 @@ ghost use Rattle.lid_design.specs.WellFormed.{IsWellFormed};
 ghost use Rattle.lid_check.specs.Networks.{IsNetwork};
 
 use crate::simulation::simulate;
+use crate::source::RowSource;
 use lid_base::{Items, copy_names};
 use lid_check::{Checked, Network};
 use lid_design::Design;
 use lid_texts::Rows;
+use lid_texts_packed::PackedRows;
 use std::alloc::{AllocError, Global};
 
 /// The strict outputs of an accepted design for input rows, by a plain simulation of all its
@@ -23,25 +25,38 @@ pub fn strict(alloc: Global, checked: &Checked, rows: &Rows) -> Result<Rows, All
     ensures width { IfOk result (λ out. AllByRecursion (λ row. length row ≡ length (root_outputs checked.now)) out.bits) }
 {
     let columns = copy_names(alloc, checked.outputs())?;
-    let bits = run(
-        alloc,
-        checked.design(),
-        checked.network(),
-        rows.bits.as_slice(),
-    )?;
-    Ok(Rows { columns, bits })
+    let packed = run(alloc, checked.design(), checked.network(), rows)?;
+    let bits = packed.unpack(alloc)?;
+    Ok(Rows {
+        columns,
+        bits: Items::from_vec(bits),
+    })
+}
+
+/// The strict outputs of an accepted design for input rows that are packed, packed too.
+///
+/// # Errors
+/// Where there is no memory.
+pub fn strict_packed(
+    alloc: Global,
+    checked: &Checked,
+    rows: &PackedRows,
+) -> Result<PackedRows, AllocError>
+    ensures { IfOk result (λ out. IsStrictOutput checked.now rows.now.rows out.rows) }
+{
+    run(alloc, checked.design(), checked.network(), rows)
 }
 
 /// The strict outputs of a design for input rows, by its columns.
-fn run(
+fn run<R: RowSource>(
     alloc: Global,
     design: &Design,
     network: &Network,
-    rows: &[Items<bool>],
-) -> Result<Items<Items<bool>>, AllocError>
+    rows: &R,
+) -> Result<PackedRows, AllocError>
     requires formed { IsWellFormed design.now }
     requires network { IsNetwork design.now network.now }
-    ensures { IfOk result (IsStrictOutput design.now rows.now) }
+    ensures { IfOk result (λ out. IsStrictOutput design.now (R.rows rows.now) out.rows) }
 {
     let drivers = network.columns.drivers.as_slice();
     let order = network.order.as_slice();

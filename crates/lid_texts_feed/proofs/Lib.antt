@@ -4,3 +4,4 @@ pub mod Giving
 pub mod Rereading
 pub mod Calling
 pub mod Needing
+pub mod Packs

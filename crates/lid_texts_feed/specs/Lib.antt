@@ -1,3 +1,4 @@
 pub mod Feeds
 pub mod Fetching
 pub mod Rereadings
+pub mod Packing

@@ -4,6 +4,7 @@ mod base;
 mod devices;
 mod fetches;
 mod numbers;
+mod packed;
 mod pieces;
 mod reports;
 mod rows;

@@ -17,6 +17,8 @@ use lid_design::Design;
 use lid_net::build;
 use lid_system::System;
 use lid_texts::{Rows, read_rows};
+use lid_texts_feed::read_packed;
+use lid_texts_packed::PackedRows;
 use std::alloc::Global;
 
 /// The text of a netlist.
@@ -76,6 +78,37 @@ impl<'d> FileText for RowsText<'d> {
         let outs = self.checked.outputs().len() as u32;
         match read_rows(alloc, bytes, self.checked.inputs(), outs) {
             Ok(rows) => Ok(rows),
+            Err(fault) => Err(rows_stop(fault)),
+        }
+    }
+}
+
+/// The same text, with its rows packed.
+#[derive(Clone, Copy)]
+pub struct PackedText<'d> {
+    /// The design.
+    pub checked: &'d Checked,
+}
+
+impl<'d> FileText for PackedText<'d> {
+    type Read = PackedRows;
+
+    ghost Told = { List (List Bool) };
+
+    ghost told = { λ packed. packed.rows };
+
+    ghost limit = { rows_limit };
+
+    ghost reading = { λ text. vec_reading text.checked.now };
+
+    fn limit(&self) -> u32 {
+        67_108_864
+    }
+
+    fn read<'a>(&self, alloc: Global, bytes: &[u8]) -> Result<PackedRows, Stop<'a>> {
+        let outs = self.checked.outputs().len() as u32;
+        match read_packed(alloc, bytes, self.checked.inputs(), outs) {
+            Ok(packed) => Ok(packed),
             Err(fault) => Err(rows_stop(fault)),
         }
     }

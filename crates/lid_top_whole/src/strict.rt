@@ -10,22 +10,25 @@ ghost use Rattle.lid_top_script.specs.Causes.{IsWant};
 use lid_base::{Name, Shelf};
 use lid_check::Checked;
 use lid_design::Design;
-use lid_strict::strict;
-use lid_texts::{Rows, print_rows};
-use lid_top_script::{NetText, RowsText, Stop, accept, read_file};
+use lid_strict::strict_packed;
+use lid_texts_packed::{PackedRows, packed_text};
+use lid_top_script::{NetText, PackedText, Stop, accept, read_file};
 use std::alloc::Global;
 
 /// The text of the strict outputs.
-fn outputs_text<'a>(alloc: Global, checked: &Checked, rows: &Rows) -> Result<Vec<u8>, Stop<'a>>
-    ensures ok { IfOk result (λ text. IsStrictText checked.now rows.now.bits text.items) }
+fn outputs_text<'a>(
+    alloc: Global,
+    checked: &Checked,
+    rows: &PackedRows,
+) -> Result<Vec<u8>, Stop<'a>>
+    ensures ok { IfOk result (λ text. IsStrictText checked.now rows.now.rows text.items) }
     ensures err { IfErr result IsWant }
 {
-    let Ok(outs) = strict(alloc, checked, rows) else {
+    let Ok(outs) = strict_packed(alloc, checked, rows) else {
         return Err(Stop::Memory);
     };
-    let mut text = Vec::new(alloc);
-    match print_rows(&outs, &mut text) {
-        Ok(()) => Ok(text),
+    match packed_text(alloc, checked.outputs(), &outs) {
+        Ok(text) => Ok(text),
         Err(_) => Err(Stop::Memory),
     }
 }
@@ -39,7 +42,7 @@ fn rows_text<'a, S: Shelf>(
 ) -> Result<Vec<u8>, Stop<'a>>
     ensures { RunsOn S.whole S.held S.fetches S.faults shelf.old shelf.new (rows_script checked.now vec.now) result }
 {
-    match read_file(alloc, shelf, vec, &RowsText { checked }) {
+    match read_file(alloc, shelf, vec, &PackedText { checked }) {
         Ok(rows) => outputs_text(alloc, checked, &rows),
         Err(stop) => Err(stop),
     }

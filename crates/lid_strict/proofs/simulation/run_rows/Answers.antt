@@ -1,22 +1,50 @@
-use Rattle.std.proofs.Common.{[], ◌+◌, Bool, List, sym, ◌∙◌, subst}
-use Rattle.std.proofs.lemmas.List.{get_or_default}
+use Rattle.std.proofs.Common.{◌≡◌, [], ◌+◌, ◌<◌, Bool, List, length, map, get_or, refl, sym, ◌∙◌, ap, subst, arith}
+use Rattle.std.proofs.lemmas.List.{length-map}
+use Rattle.lid_design.specs.Flat.{latch_init}
+use Rattle.lid_strict_engine.specs.Rows.{bit_at}
+use Rattle.lid_texts_packed.specs.Rows.{WideRows}
+use Rattle.lid_strict.specs.Networks.{rows_at}
 use Rattle.lid_strict.specs.Layouts.{IsStrictRun}
 use Rattle.lid_strict.proofs.Running.{runs_next}
 use Rattle.lid_strict.proofs.simulation.run_rows.Goals as goal
 
+pub loop-t-init : goal.loop-t-init
+loop-t-init g c =
+    let latches = c.args.run.now.layout.now.latches.items in (
+      ap (λ (bs : List Bool). length bs) c.requires.state ∙ length-map latches latch_init,
+      c.requires.inputs,
+      c.requires.bits,
+      c.requires.out,
+      ap (λ (v : WideRows). v.width) c.requires.none,
+      λ b fits. (c.requires.state, ap (λ (v : WideRows). v.rows) c.requires.none),
+    )
+
 pub loop-t-preserved : goal.loop-t-preserved
-loop-t-preserved c =
-    let p = c.args.run.layout.now in
-    let outs = c.args.run.outs.now in
-    let rows = c.args.run.rows.now in
+loop-t-preserved g c =
+    let p = c.args.run.now.layout.now in
+    let outs = c.args.run.now.outs.now in
+    let rows = g.R.RowSource.rows c.args.run.now.rows.now in
     let t = c.loop-t.t in
-    let h = c.loop-t-test.true in
-    let same_row = c.as_slice.ensures ∙ c.index-rows-t.is ∙ get_or_default rows t c.index-rows-t.result [] h in
+    let row = get_or rows t [] in
+    let h : t < length rows = omega (arith, c.loop-t-test.true, c.count-t-end.ensures) in
     let new = c.run_row.new in
     let is = c.run_row.ensures in
-    let next = runs_next p outs rows t c.loop-t.state new.state new.bits c.as_slice.result.now c.in_ok-out.out c.loop-t.results.items c.requires.runnable.taken c.requires.outs h same_row c.loop-t.invariant.3 is.state is.bits c.in_ok-out.ensures in (
+    let read = c.read_row.ensures ∙ ap (map (bit_at row)) c.as_slice.ensures.value in
+    let next = runs_next p outs rows t c.loop-t.state new.state new.bits row c.pick.new.into c.loop-t.results.rows c.requires.runnable.taken c.requires.outs h refl c.loop-t.invariant.5 is.state (λ f fits. is.bits row f read fits) c.pick.ensures in (
       is.state_size,
-      is.inputs_size,
+      ap (λ (bs : List Bool). length bs) read ∙ length-map p.places.items (bit_at row),
       is.bits_size,
-      subst (λ (rs : List (List Bool)). IsStrictRun p outs rows (t + 1) new.state rs) (sym c.in_ok-push.ensures.items) next,
+      ap (λ (bs : List Bool). length bs) c.pick.ensures ∙ length-map outs (bit_at new.bits),
+      c.in_ok-push.ensures.width ∙ c.loop-t.invariant.4,
+      subst (λ (rs : List (List Bool)). IsStrictRun p outs rows (t + 1) new.state rs) (sym (ap (λ (v : WideRows). v.rows) c.in_ok-push.ensures.ok)) next,
     )
+
+pub push-requires : goal.push-requires
+push-requires g c =
+    ap (λ (bs : List Bool). length bs) c.pick.ensures ∙ length-map c.args.run.now.outs.now (bit_at c.run_row.new.bits) ∙ sym c.loop-t.invariant.4
+
+pub returns : goal.returns
+returns g c = λ b fits.
+    let rows = g.R.RowSource.rows c.args.run.now.rows.now in
+    let all : c.loop-t.t ≡ length rows = omega (arith, c.loop-t-test.false, c.loop-t.auto.t-end, c.count-t-end.ensures) in
+    (c.loop-t.invariant.5 b fits).1 ∙ ap (rows_at c.args.run.now.outs.now b) all

@@ -3,8 +3,10 @@ use Rattle.lid_strict.specs.Layouts.{IsStrictRun}
 use Rattle.lid_strict.proofs.simulation.run_rows.Given as goal
 
 abbrev pub invariant-loop-t : goal.invariant-loop-t
-invariant-loop-t l =
+invariant-loop-t g l =
     (length l.state ≡ length l.run.layout.now.latches.items)
     × (length l.inputs ≡ length l.run.layout.now.places.items)
     × (length l.bits ≡ l.run.layout.now.program.nets)
-    × IsStrictRun l.run.layout.now l.run.outs.now l.run.rows.now l.t l.state l.results.items
+    × (length l.out ≡ length l.run.outs.now)
+    × (l.results.width ≡ length l.run.outs.now)
+    × IsStrictRun l.run.layout.now l.run.outs.now (g.R.RowSource.rows l.run.rows.now) l.t l.state l.results.rows
