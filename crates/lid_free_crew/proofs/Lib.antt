@@ -7,6 +7,7 @@ pub mod Running
 pub mod Sweeping
 pub mod Ordering
 pub mod Circling
+pub mod Idling
 pub mod Worked
 pub mod Choosing
 pub mod Lists

@@ -1,5 +1,6 @@
 -- A worker that has made so many rounds.
 use Rattle.std.proofs.Common.{◌≡◌, ℕ, suc, ◌+◌, ◌*◌, List, length, refl, sym, ◌∙◌, subst, arith}
+use Rattle.std.specs.Prelude.{Some, slice_get}
 use Rattle.std.proofs.Math.Nat.{add-mul}
 use Rattle.lid_base.specs.declared.runs.Tally.{Tally}
 use Rattle.lid_station.specs.Boards.{Ends}
@@ -9,7 +10,7 @@ use Rattle.lid_board.specs.declared.board.Board.{Board}
 use Rattle.lid_walk_machine.specs.Setups.{plan}
 use Rattle.lid_shell_laws.specs.Setups.{Setup}
 use Rattle.lid_walk_machine.specs.Machine.{State}
-use Rattle.lid_free_crew.specs.Posts.{known, IsReady, StaysAt}
+use Rattle.lid_free_crew.specs.Posts.{known, IsAtWork, IsReady, StaysAt}
 use Rattle.lid_free_crew.specs.Tallies.{AddsUp, IsTallyOf}
 use Rattle.lid_free_crew.specs.Nothing.{no_turns}
 use Rattle.lid_free_crew.specs.Turns.{HaveGone}
@@ -18,6 +19,7 @@ use Rattle.lid_free_crew.specs.Order.{stage_of, TurnsMade, WorksInOrder}
 use Rattle.lid_free_crew.specs.Rounds.{Made, IsWorkerRun, GoesRound}
 use Rattle.lid_free_crew.specs.declared.worker.Worker.{Worker}
 use Rattle.lid_free_crew.proofs.Rounding.{none_made, made_as, done_each, alike}
+use Rattle.lid_free_crew.proofs.Circling.{still_at_work}
 use Rattle.lid_free_crew.proofs.Ordering.{no_rounds_made, one_round_made}
 
 -- what a worker has made since its start
@@ -79,6 +81,12 @@ one_round board rounds old new then_ at number of round turns = record {
 -- a round keeps the actors
 pub round_long : (board : Board) (before now : Ends) (olds news : List Actor) (was is : Tally) → AddsUp was → GoesRound board before olds was now news is → length news ≡ length olds
 round_long board before now olds news was is adds round = (round.made (λ _. 0) 0 before olds was (none_made board before olds was adds)).many
+
+-- its actors are at work as before
+pub at_work_still : (board : Board) (rounds : ℕ) (old new : Worker) → IsReady board old → IsAt board rounds old new
+    → (i : ℕ) (a : Actor) → slice_get new.actors.items i ≡ Some a → IsAtWork board (known new.hand) a
+at_work_still board rounds old new ready at =
+    still_at_work board (λ _. rounds) _ (known old.hand) old.actors.items old.tally (known new.hand) new.actors.items new.tally at.made ready.agree
 
 -- the rounds that were made are all
 pub all_rounds : (board : Board) (rounds all : ℕ) (old new : Worker) → IsAt board rounds old new → rounds ≡ all → IsAt board all old new

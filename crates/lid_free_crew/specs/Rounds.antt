@@ -1,5 +1,5 @@
 -- Serves the bodies: what was made so far, over turns and rounds.
-use Rattle.std.specs.Prelude.{◌≡◌, ℕ, ◌+◌, ◌≤◌, ◌==◌, cond, List, [], ◌∷◌, length, Some, slice_get}
+use Rattle.std.specs.Prelude.{◌≡◌, ℕ, ◌+◌, ◌<◌, ◌≤◌, ◌==◌, cond, List, [], ◌∷◌, length, Some, slice_get}
 use Rattle.lid_base.specs.declared.runs.Tally.{Tally}
 use Rattle.lid_station.specs.Boards.{Ends}
 use Rattle.lid_board.specs.declared.board.Board.{Board}
@@ -10,6 +10,10 @@ use Rattle.lid_free_crew.specs.Posts.{stations_of, IsEndOf, KeepsEnds}
 use Rattle.lid_free_crew.specs.Tallies.{AddsUp, void_misses, stop_misses, fired_by, firings_of_done}
 use Rattle.lid_free_crew.specs.Turns.{HasMadeTurns}
 use Rattle.lid_free_crew.specs.Alone.{TurnsSoFar, AreAlone, round_of}
+
+-- the first so many actors are at their caps
+abbrev pub AreDone : ℕ → List Actor → Type 0
+AreDone many actors = (i : ℕ) (a : Actor) → i < many → slice_get actors i ≡ Some a → a.desk.fired ≡ a.desk.cap
 
 -- the turns of those actors that are at their caps, where each has made so many
 abbrev pub done_turns : (ℕ → ℕ) → List Actor → ℕ

@@ -76,6 +76,16 @@ counted end t = record {
   dones = t.dones + done_one end;
 }
 
+-- a tally with so many turns more, all of which ended as done
+abbrev pub counted_done : ℕ → Tally → Tally
+counted_done turns t = record {
+  turns = t.turns + turns;
+  fired = t.fired;
+  voids = t.voids;
+  stops = t.stops;
+  dones = t.dones + turns;
+}
+
 -- each turn is counted in one way
 abbrev pub AddsUp : Tally → Type 0
 AddsUp t = t.turns ≡ t.fired + t.voids + t.stops + t.dones

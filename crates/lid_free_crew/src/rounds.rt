@@ -9,10 +9,10 @@ ghost use Rattle.lid_shell_laws.specs.Setups.{Setup};
 ghost use Rattle.lid_walk_machine.specs.Machine.{State};
 ghost use Rattle.lid_shell.specs.declared.actor.Actor.{Actor};
 ghost use Rattle.lid_free_crew.specs.Posts.{known, IsAtWork, AreApart};
-ghost use Rattle.lid_free_crew.specs.Tallies.{AddsUp, counted};
+ghost use Rattle.lid_free_crew.specs.Tallies.{AddsUp, counted, counted_done};
 ghost use Rattle.lid_free_crew.specs.Alone.{TurnsSoFar, AreAlone, round_of};
 ghost use Rattle.lid_free_crew.specs.Order.{MakesTurn, HasMadeSteps, stage, TurnsMade};
-ghost use Rattle.lid_free_crew.specs.Rounds.{Made, GoesRound};
+ghost use Rattle.lid_free_crew.specs.Rounds.{Made, AreDone, GoesRound};
 
 use lid_base::Tally;
 use lid_board::{Attended, Board, Hand};
@@ -33,6 +33,16 @@ fn count(tally: &mut Tally, end: TurnEnd)
     }
 }
 
+/// Counts so many turns of actors at their caps.
+fn count_done(tally: &mut Tally, turns: u64)
+    requires adds_up { AddsUp tally.old }
+    requires room { tally.old.turns + turns < 2 ^ 64 }
+    ensures { tally.new ≡ counted_done turns tally.old }
+{
+    tally.turns += turns;
+    tally.dones += turns;
+}
+
 /// Makes one turn of an actor by a hand at its board, and counts it.
 fn make_turn(actor: &mut Actor<'_>, board: &Board, hand: &mut Hand, tally: &mut Tally)
     requires of { IsOf hand.old board.now }
@@ -51,23 +61,43 @@ fn make_turn(actor: &mut Actor<'_>, board: &Board, hand: &mut Hand, tally: &mut 
     count(tally, end);
 }
 
-/// Makes one turn of each actor, in order.
+/// Makes one turn of each actor, in order. The first so many are at their caps: their turns are counted without a look
+/// at them.
 pub(crate) fn make_round(
     actors: &mut [Actor<'_>],
     board: &Board,
     hand: &mut Hand,
     tally: &mut Tally,
+    done: usize,
 )
     requires of { IsOf hand.old board.now }
     requires at_work { (i : ℕ) (a : Actor) → slice_get actors.old i ≡ Some a → IsAtWork board.now (known hand.old) a }
     requires apart { AreApart actors.old }
     requires adds_up { AddsUp tally.old }
     requires room { tally.old.turns + length actors.old < 2 ^ 64 }
+    requires within { done ≤ length actors.old }
+    requires done { AreDone done actors.old }
     ensures of { IsOf hand.new board.now }
     ensures round { GoesRound board.now (known hand.old) actors.old tally.old (known hand.new) actors.new tally.new }
     ensures in_order { TurnsMade board.now (length actors.old) (stage hand.old actors.old tally.old) (stage hand.new actors.new tally.new) }
 {
-    for at in 0..actors.len() {
+    count_done(tally, done as u64);
+    for at in done..actors.len() {
         make_turn(&mut actors[at], board, hand, tally);
     }
+}
+
+/// How many actors from the first on are at their caps, where so many are: up to the first that is not.
+pub(crate) fn done_first(actors: &[Actor<'_>], done: usize) -> usize
+    requires within { done ≤ length actors.now }
+    requires done { AreDone done actors.now }
+    ensures within { result ≤ length actors.now }
+    ensures done { AreDone result actors.now }
+{
+    for place in done..actors.len() {
+        if actors[place].fired() != actors[place].cap() {
+            return place;
+        }
+    }
+    actors.len()
 }

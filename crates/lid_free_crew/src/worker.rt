@@ -10,7 +10,7 @@ ghost use Rattle.lid_free_crew.specs.Tallies.{IsTallyOf};
 ghost use Rattle.lid_free_crew.specs.Order.{WorksInOrder};
 ghost use Rattle.lid_free_crew.specs.Alone.{WorksAlone, MakesRounds};
 
-use crate::rounds::make_round;
+use crate::rounds::{done_first, make_round};
 use lid_base::{Gate, Tally};
 use lid_board::{Board, Hand};
 use lid_shell::Actor;
@@ -45,6 +45,7 @@ pub fn work<G: Gate>(worker: &mut Worker<'_>, board: &Board, rounds: u64, gate: 
     ensures alone { (m : Setup) (numbers : List ℕ) (st : State) → WorksAlone m numbers st board.now worker.old
         → MakesRounds m numbers st board.now rounds worker.new }
 {
+    let mut done = 0;
     for round in 0..rounds {
         gate.pass(worker.number, round);
         make_round(
@@ -52,6 +53,8 @@ pub fn work<G: Gate>(worker: &mut Worker<'_>, board: &Board, rounds: u64, gate: 
             board,
             &mut worker.hand,
             &mut worker.tally,
+            done,
         );
+        done = done_first(worker.actors.as_slice(), done);
     }
 }
