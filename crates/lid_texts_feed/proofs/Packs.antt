@@ -29,9 +29,6 @@ module _ (columns : List (List ℕ)) (outs : ℕ) (bytes now : List ℕ) (p : Pa
       (all_parts (λ row. length row ≡ length columns) (ended_rows columns outs bytes) gives.rows
       (subst (λ (rs : List (List Bool)). AllByRecursion (λ row. length row ≡ length columns) rs) all_now (ended_wide columns outs now))).1)
 
-  pub given_now : p.packed.rows ++ given ≡ ended_rows columns outs now
-  given_now = ap (λ (rs : List (List Bool)). rs ++ given) has.rows ∙ ap (λ (rs : List (List Bool)). ended_rows columns outs bytes ++ rs) given_are ∙ sym all_now
-
 module _ (columns : List (List ℕ)) (outs : ℕ) (bytes : List ℕ) (p : Packing) (has : HasPacked columns outs bytes p) (given : List (List Bool)) (n : ℕ) (ends : FinishesScan p.scan.columns p.scan.outs bytes p.given.items given n) where
   reads : rows_reading columns outs bytes ≡ Ok (record { columns = columns; bits = ends.bits })
   reads =

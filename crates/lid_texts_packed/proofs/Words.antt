@@ -109,14 +109,6 @@ module _ (old : List ℕ) (count : ℕ) (holds : HoldsBits old count) where
       last = ap (λ (n : ℕ). n == 1) at_last;
     }
 
-  -- a bit that is 0 stands there
-  pub bit_left : (count % 64 ≡ 0 → ⊥) → AppendsBit old count false old
-  bit_left inside = record {
-    holds = record { within = omega (arith, holds.within, inside); few = omega (arith, holds.few); clear = λ i past. holds.clear i (omega arith) };
-    kept = λ i less. refl;
-    last = holds.clear count (omega arith);
-  }
-
 -- all bits, and one more
 pub bits_more : (old : List ℕ) (count : ℕ) (bit : Bool) (new : List ℕ) → AppendsBit old count bit new → bits_in new (count + 1) ≡ bits_in old count ++ bit ∷ []
 bits_more old count bit new appends =
