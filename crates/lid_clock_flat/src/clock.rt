@@ -1,8 +1,7 @@
 //! The flat run that stalls hold.
 
 ghost use Rattle.std.specs.Prelude.{◌≡◌, ◌↔◌, ℕ, suc, ◌+◌, ◌^◌, ◌<◌, ◌≤◌, min, true, false, ◌||◌, if◌then◌else◌, Some, slice_get, IfOk};
-ghost use Rattle.lid_system.specs.Systems.{IsWellFormed};
-ghost use Rattle.lid_stations.specs.Placements.{links_of, station_count, Fits};
+ghost use Rattle.lid_stations.specs.Placements.{links_of, station_count};
 ghost use Rattle.lid_stations.specs.Stations.{actor_count};
 ghost use Rattle.lid_clock.specs.Lives.{Life, StartsSo, NeedsRow, IsBelow, IsLast, fired_after, shown_after};
 ghost use Rattle.lid_shell_laws.specs.Setups.{IsInputRow};
@@ -15,8 +14,7 @@ ghost use Rattle.lid_clock_flat.specs.Clocks.{RanFlat};
 use crate::run::FlatRun;
 use lid_base::{Items, Shown};
 use lid_stall::Stall;
-use lid_stations::Placement;
-use lid_system::System;
+use lid_stations::Placed;
 use std::alloc::{AllocError, Global};
 
 /// A clocked run in which stalls hold the source and the sink, or nobody where there are no stalls.
@@ -72,21 +70,18 @@ impl FlatClock {
     /// Where there is no memory.
     pub fn start(
         alloc: Global,
-        system: &System,
-        placement: &Placement,
+        placed: &Placed<'_>,
         rows: u64,
         first: Option<&[bool]>,
         stalls: Items<Stall>,
     ) -> Result<FlatClock, AllocError>
-        requires system { IsWellFormed system.now }
-        requires fits { Fits system.now placement.now }
         requires few { rows ≤ 1000000 }
-        requires first { IsFirstRow system.now rows (lent first) }
+        requires first { IsFirstRow placed.now.system rows (lent first) }
         requires stalls { Ascend stalls }
-        ensures { IfOk result (λ clock. (l : Life) → StartsSo l system.now placement.now rows (lent first.entry) → IsHeldBy l stalls
+        ensures { IfOk result (λ clock. (l : Life) → StartsSo l placed.now.system placed.now.placement rows (lent first.entry) → IsHeldBy l stalls
             → RanFlat l 0 (min 1 rows) clock) }
     {
-        let run = FlatRun::start(alloc, system, placement, rows, first)?;
+        let run = FlatRun::start(alloc, placed, rows, first)?;
         Ok(FlatClock {
             run,
             stalls,

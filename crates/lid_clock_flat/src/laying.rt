@@ -1,8 +1,6 @@
 //! A run that was built is laid flat.
 
 ghost use Rattle.std.specs.Prelude.{◌≡◌, ℕ, ◌+◌, ◌^◌, ◌<◌, ◌≤◌, min, ◌++◌, ◌∷◌, [], length, Some, slice_get, IfOk, OnOk};
-ghost use Rattle.lid_system.specs.Systems.{IsWellFormed};
-ghost use Rattle.lid_stations.specs.Placements.{Fits};
 ghost use Rattle.lid_clock.specs.declared.actor.ClockActor.{ClockActor};
 ghost use Rattle.lid_clock.specs.Lives.{Life, StartsSo};
 ghost use Rattle.lid_clock.specs.Ran.{Ran, lent, IsFirstRow};
@@ -14,8 +12,8 @@ use crate::run::FlatRun;
 use crate::station::FlatStation;
 use crate::stations::FlatStations;
 use lid_clock::{ClockActor, ClockStation, ClockStream, runs_go_by_rules};
-use lid_stations::Placement;
-use lid_system::{System, systems_have_one_table};
+use lid_stations::Placed;
+use lid_system::systems_have_one_table;
 use std::alloc::{AllocError, Global};
 
 /// Lays one more station.
@@ -124,19 +122,17 @@ impl FlatRun {
     /// Where there is no memory.
     pub(crate) fn start(
         alloc: Global,
-        system: &System,
-        placement: &Placement,
+        placed: &Placed<'_>,
         rows: u64,
         first: Option<&[bool]>,
     ) -> Result<FlatRun, AllocError>
-        requires system { IsWellFormed system.now }
-        requires fits { Fits system.now placement.now }
         requires few { rows ≤ 1000000 }
-        requires first { IsFirstRow system.now rows (lent first) }
-        ensures { IfOk result (λ run. (l : Life) → StartsSo l system.now placement.now rows (lent first.entry) → FlatRan l 0 (min 1 rows) run) }
+        requires first { IsFirstRow placed.now.system rows (lent first) }
+        ensures { IfOk result (λ run. (l : Life) → StartsSo l placed.now.system placed.now.placement rows (lent first.entry)
+            → FlatRan l 0 (min 1 rows) run) }
     {
         systems_have_one_table();
-        let stream = ClockStream::start(alloc, system, placement, rows, first)?;
-        FlatRun::of(alloc, stream, system.nodes.len(), rows)
+        let stream = ClockStream::start(alloc, placed.system, placed.placement, rows, first)?;
+        FlatRun::of(alloc, stream, placed.system.nodes.len(), rows)
     }
 }

@@ -2,8 +2,7 @@
 
 ghost use Rattle.std.specs.Prelude.{◌≡◌, ◌↔◌, ◌<◌, ◌≤◌, ℕ, suc, true, false, length, option_map, slice_get, IfOk};
 ghost use Rattle.std.specs.List.{AllByRecursion};
-ghost use Rattle.lid_system.specs.Systems.{IsWellFormed};
-ghost use Rattle.lid_stations.specs.Placements.{station_count, Fits};
+ghost use Rattle.lid_stations.specs.Placements.{station_count};
 ghost use Rattle.lid_shell_laws.specs.Setups.{IsInputRow};
 ghost use Rattle.lid_clock.specs.Lives.{Life, NeedsRow, IsBelow, IsLast, shown_after};
 ghost use Rattle.lid_clock.specs.Ran.{lent};
@@ -12,8 +11,7 @@ ghost use Rattle.lid_clock_flat.specs.Feeds.{Feeds, IsFeeding};
 
 use crate::clock::FlatClock;
 use lid_base::{Items, Shown};
-use lid_stations::Placement;
-use lid_system::System;
+use lid_stations::Placed;
 use lid_texts::Rows;
 use std::alloc::{AllocError, Global};
 
@@ -44,20 +42,18 @@ impl<'r> FlatRows<'r> {
     /// Want of memory.
     pub fn start(
         alloc: Global,
-        system: &System,
-        placement: &Placement,
+        placed: &Placed<'_>,
         rows: &'r Rows,
     ) -> Result<FlatRows<'r>, AllocError>
-        requires system { IsWellFormed system.now }
-        requires fits { Fits system.now placement.now }
         requires few { length rows.now.bits ≤ 1000000 }
-        requires wide { AllByRecursion (IsInputRow system.now) rows.now.bits }
-        ensures { IfOk result (λ x. (l : Life) → IsFreeLife l rows.now.bits → l.setup.system ≡ system.now → l.setup.placement ≡ placement.now → Feeds l 0 x) }
+        requires wide { AllByRecursion (IsInputRow placed.now.system) rows.now.bits }
+        ensures { IfOk result (λ x. (l : Life) → IsFreeLife l rows.now.bits → l.setup.system ≡ placed.now.system
+            → l.setup.placement ≡ placed.now.placement → Feeds l 0 x) }
     {
         let count = rows.bits.len();
         let none = Items::from_vec(Vec::new(alloc));
         let first = first_of(rows);
-        let clock = FlatClock::start(alloc, system, placement, count as u64, first, none)?;
+        let clock = FlatClock::start(alloc, placed, count as u64, first, none)?;
         Ok(FlatRows {
             clock,
             input: rows,

@@ -1,19 +1,10 @@
 -- Clocked runs that workers make, or that are laid flat.
-use Rattle.std.specs.Prelude.{ℕ, ◌≤◌}
-use Rattle.lid_system.specs.Systems.{IsWellFormed}
-use Rattle.lid_stations.specs.Placements.{Fits}
+use Rattle.std.specs.Prelude.{ℕ}
 use Rattle.lid_clock.specs.Lives.{Life, HoldsNobody}
 use Rattle.lid_clock.specs.Ran.{Ran}
 use Rattle.lid_clock_flat.specs.Clocks.{RanFlat}
-use Rattle.lid_top_clock.specs.declared.task.Task.{Task}
 use Rattle.lid_top_clock.specs.declared.course.Course.{Course}
 use Rattle.lid_top_clock.specs.declared.course.Course.TheVariants.{Worked, Flat}
-
--- a task that can be run
-pub record IsSoundTask (task : Task) : Type 0 where
-  pub system : IsWellFormed task.system.now
-  pub fits : Fits task.system.now task.placement.now
-  pub few : task.rows ≤ 1000000
 
 -- a run after k cycles and g given rows of a life
 abbrev pub RanBy : Life → ℕ → ℕ → Course → Type 0

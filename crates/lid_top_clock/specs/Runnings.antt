@@ -35,7 +35,7 @@ run_of s p columns rows trace stalls held = record { system = s; placement = p; 
 
 -- the run of a task, with these stalls, over a file that holds this
 abbrev pub run_by : Task → Option (List Stall) → Option (List ℕ) → ClockRun
-run_by task stalls held = run_of task.system.now task.placement.now task.columns.now task.rows task.trace stalls held
+run_by task stalls held = run_of task.placed.now.system task.placed.now.placement task.columns.now task.rows task.trace stalls held
 
 -- the columns of a source
 abbrev pub columns_of : Node → List (List ℕ)

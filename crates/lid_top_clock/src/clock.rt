@@ -14,6 +14,7 @@ use crate::whole::run;
 use crate::workers::Workers;
 use lid_base::{Gate, Items, Shelf, Sink};
 use lid_stall_text::Stall;
+use lid_stations::Placed;
 use lid_texts_feed::RowFeed;
 use lid_top_script::{JobEnd, Stop, Wrapped, judge_trace, read_job_stalls, read_wrapped};
 use std::thread::Threads;
@@ -137,9 +138,12 @@ fn run_again<'a, S: Shelf, O: Sink, R: Threads + AllocGlobal + Sync, G: Gate>(
         return Err(JobEnd::Stopped(Stop::Memory));
     };
     let _ = checked.design();
-    let task = Task {
+    let placed = Placed {
         system: &wrapped.system,
         placement: &wrapped.placement,
+    };
+    let task = Task {
+        placed: &placed,
         columns: checked.outputs(),
         rows,
         trace: asked.trace,

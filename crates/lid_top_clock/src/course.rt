@@ -1,6 +1,6 @@
 //! Clocked runs that workers make, or that are laid flat.
 
-ghost use Rattle.std.specs.Prelude.{◌≡◌, ◌↔◌, ℕ, suc, ◌+◌, ◌^◌, ◌<◌, min, true, Some, slice_get, IfOk};
+ghost use Rattle.std.specs.Prelude.{◌≡◌, ◌↔◌, ℕ, suc, ◌+◌, ◌^◌, ◌<◌, ◌≤◌, min, true, Some, slice_get, IfOk};
 ghost use Rattle.lid_stations.specs.Placements.{links_of, station_count};
 ghost use Rattle.lid_stations.specs.Stations.{actor_count};
 ghost use Rattle.lid_clock.specs.Lives.{Life, StartsSo, NeedsRow, IsBelow, IsLast, HoldsNobody, sink, fired_after, shown_after};
@@ -8,7 +8,7 @@ ghost use Rattle.lid_shell_laws.specs.Setups.{IsInputRow};
 ghost use Rattle.lid_clock.specs.Ran.{lent, IsFirstRow};
 ghost use Rattle.lid_stall_text.specs.Holds.{Ascend, listed, hold_of};
 ghost use Rattle.lid_stall.specs.Runs.{IsHeldBy, stalled_after};
-ghost use Rattle.lid_top_clock.specs.Courses.{IsSoundTask, RanBy};
+ghost use Rattle.lid_top_clock.specs.Courses.{RanBy};
 
 use crate::task::Task;
 use crate::workers::Workers;
@@ -31,12 +31,13 @@ pub(crate) enum Course {
 impl Course {
     /// A run in which nobody is held, for workers.
     fn worked(alloc: Global, task: &Task<'_>, first: Option<&[bool]>) -> Result<Course, AllocError>
-        requires sound { IsSoundTask task.now }
-        requires first { IsFirstRow task.now.system.now task.now.rows (lent first) }
-        ensures { IfOk result (λ course. (l : Life) → StartsSo l task.now.system.now task.now.placement.now task.now.rows (lent first.entry)
+        requires few { task.now.rows ≤ 1000000 }
+        requires first { IsFirstRow task.now.placed.now.system task.now.rows (lent first) }
+        ensures { IfOk result (λ course. (l : Life) → StartsSo l task.now.placed.now.system task.now.placed.now.placement task.now.rows (lent first.entry)
             → ((k : ℕ) → HoldsNobody l k) → RanBy l 0 (min 1 task.now.rows) course) }
     {
-        let stream = ClockStream::start(alloc, task.system, task.placement, task.rows, first)?;
+        let placed = task.placed;
+        let stream = ClockStream::start(alloc, placed.system, placed.placement, task.rows, first)?;
         Ok(Course::Worked(stream))
     }
 
@@ -47,13 +48,13 @@ impl Course {
         first: Option<&[bool]>,
         stalls: Items<Stall>,
     ) -> Result<Course, AllocError>
-        requires sound { IsSoundTask task.now }
-        requires first { IsFirstRow task.now.system.now task.now.rows (lent first) }
+        requires few { task.now.rows ≤ 1000000 }
+        requires first { IsFirstRow task.now.placed.now.system task.now.rows (lent first) }
         requires ascend { Ascend stalls }
-        ensures { IfOk result (λ course. (l : Life) → StartsSo l task.now.system.now task.now.placement.now task.now.rows (lent first.entry)
+        ensures { IfOk result (λ course. (l : Life) → StartsSo l task.now.placed.now.system task.now.placed.now.placement task.now.rows (lent first.entry)
             → IsHeldBy l stalls → RanBy l 0 (min 1 task.now.rows) course) }
     {
-        let clock = FlatClock::start(alloc, task.system, task.placement, task.rows, first, stalls)?;
+        let clock = FlatClock::start(alloc, task.placed, task.rows, first, stalls)?;
         Ok(Course::Flat(clock))
     }
 
@@ -70,10 +71,10 @@ impl Course {
         stalls: Option<Items<Stall>>,
         workers: u32,
     ) -> Result<Course, AllocError>
-        requires sound { IsSoundTask task.now }
-        requires first { IsFirstRow task.now.system.now task.now.rows (lent first) }
+        requires few { task.now.rows ≤ 1000000 }
+        requires first { IsFirstRow task.now.placed.now.system task.now.rows (lent first) }
         requires ascend { Ascend (listed stalls) }
-        ensures { IfOk result (λ course. (l : Life) → StartsSo l task.now.system.now task.now.placement.now task.now.rows (lent first.entry)
+        ensures { IfOk result (λ course. (l : Life) → StartsSo l task.now.placed.now.system task.now.placed.now.placement task.now.rows (lent first.entry)
             → l.hold ≡ hold_of stalls (sink l) → RanBy l 0 (min 1 task.now.rows) course) }
     {
         match stalls {

@@ -4,8 +4,7 @@ ghost use Rattle.std.specs.Prelude.{◌≡◌, ◌≤◌, ◌<◌, ◌+◌, ◌^
 ghost use Rattle.lid_base.specs.declared.outside.Fetch.{Fetch};
 ghost use Rattle.lid_base.specs.Outside.{Rose};
 ghost use Rattle.lid_base.specs.Each.{from_each};
-ghost use Rattle.lid_system.specs.Systems.{IsWellFormed};
-ghost use Rattle.lid_stations.specs.Placements.{station_count, Fits};
+ghost use Rattle.lid_stations.specs.Placements.{station_count};
 ghost use Rattle.std.specs.Option.{is_some};
 ghost use Rattle.lid_clock.specs.Lives.{Life, fired_after, shown_after};
 ghost use Rattle.lid_clock.specs.Ran.{lent, IsFirstRow};
@@ -106,14 +105,14 @@ impl Running {
         stalls: Option<Items<Stall>>,
         workers: u32,
     ) -> Result<Running, RunFault>
-        requires system { IsWellFormed task.now.system.now }
-        requires fits { Fits task.now.system.now task.now.placement.now }
         requires few { task.now.rows ≤ 1000000 }
-        requires first { IsFirstRow task.now.system.now task.now.rows (lent first) }
+        requires first { IsFirstRow task.now.placed.now.system task.now.rows (lent first) }
         requires ascend { Ascend (listed stalls) }
-        ensures begun { IfOk result (HasBegun task.now.system.now task.now.placement.now task.now.rows (lent first.entry) task.now.trace stalls) }
+        ensures begun { IfOk result (HasBegun task.now.placed.now.system task.now.placed.now.placement task.now.rows (lent first.entry) task.now.trace stalls) }
         ensures cause { IfErr result (λ fault. fault ≡ RunFault.Memory) }
     {
+        let placed = task.placed;
+        let stations = placed.placement.caps.len() as u32;
         let told = stalls.is_some();
         let Ok(stream) = Course::start(alloc, task, first, stalls, workers) else {
             return Err(RunFault::Memory);
@@ -123,7 +122,7 @@ impl Running {
             stream,
             made: 0,
             given: task.rows.min(1),
-            stations: task.placement.caps.len() as u32,
+            stations,
             trace: task.trace,
             told,
             cells: Vec::new(alloc),
@@ -139,17 +138,15 @@ impl Running {
         stalls: Option<Items<Stall>>,
         workers: u32,
     ) -> Result<Running, RunFault>
-        requires system { IsWellFormed task.now.system.now }
-        requires fits { Fits task.now.system.now task.now.placement.now }
         requires few { task.now.rows ≤ 1000000 }
         requires ascend { Ascend (listed stalls) }
         requires feeds { (columns : List (List ℕ)) × HasGiven (S.held shelf.old feed.old.name)
-            (source_columns task.now.system.now) (length columns) feed.old [] }
-        ensures ok { (r : ClockRun) → r.system ≡ task.now.system.now → r.placement ≡ task.now.placement.now → r.rows ≡ task.now.rows → r.trace ≡ task.now.trace
+            (source_columns task.now.placed.now.system) (length columns) feed.old [] }
+        ensures ok { (r : ClockRun) → r.system ≡ task.now.placed.now.system → r.placement ≡ task.now.placed.now.placement → r.rows ≡ task.now.rows → r.trace ≡ task.now.trace
             → r.stalls ≡ stalls → r.held ≡ S.held shelf.old feed.old.name → FeedGives r feed.old []
             → IfOk result (λ run. HasStarted r run feed.new) }
         ensures made { IfOk result (λ run. run.made ≡ 0) }
-        ensures err { (r : ClockRun) → r.system ≡ task.now.system.now → r.rows ≡ task.now.rows → r.held ≡ S.held shelf.old feed.old.name
+        ensures err { (r : ClockRun) → r.system ≡ task.now.placed.now.system → r.rows ≡ task.now.rows → r.held ≡ S.held shelf.old feed.old.name
             → FeedGives r feed.old []
             → IfErr result (IsRunCause r [] (Rose (S.faults shelf.old feed.old.name) (S.faults shelf.new feed.old.name)) ⊥) }
         ensures fetched { (r : ClockRun) (first : Option (List Fetch)) → r.rows ≡ task.now.rows → r.held ≡ S.held shelf.old feed.old.name
@@ -159,6 +156,8 @@ impl Running {
         ensures kept { S.held shelf.new ≡ S.held shelf.old }
         ensures grows { (q : List ℕ) → S.faults shelf.old q ≤ S.faults shelf.new q }
     {
+        let placed = task.placed;
+        let _ = &placed.system;
         if task.rows == 0 {
             return Running::begin(alloc, task, None, stalls, workers);
         }

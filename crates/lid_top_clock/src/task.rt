@@ -1,16 +1,13 @@
 //! What is run, and how much of it is told.
 
 use lid_base::Name;
-use lid_stations::Placement;
-use lid_system::System;
+use lid_stations::Placed;
 
 /// A system with its stations, over how many rows it is run, and what is told of the run.
 #[derive(Clone, Copy)]
 pub struct Task<'s> {
-    /// The system.
-    pub system: &'s System,
-    /// The stations.
-    pub placement: &'s Placement,
+    /// The system and its stations.
+    pub placed: &'s Placed<'s>,
     /// The names of the columns of its output rows.
     pub columns: &'s [Name],
     /// The number of rows, at most 1,000,000.

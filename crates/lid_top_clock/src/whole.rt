@@ -3,8 +3,6 @@
 ghost use Rattle.std.specs.Prelude.{◌≡◌, ℕ, ◌<◌, ◌≤◌, Bool, List, [], length, Option, OnOk, IfErr};
 ghost use Rattle.lid_base.specs.declared.outside.Fetch.{Fetch};
 ghost use Rattle.lid_base.specs.Outside.{Rose};
-ghost use Rattle.lid_system.specs.Systems.{IsWellFormed};
-ghost use Rattle.lid_stations.specs.Placements.{Fits};
 ghost use Rattle.lid_texts_feed.specs.Fetching.{HasGiven};
 ghost use Rattle.lid_top_clock.specs.Runnings.{ClockRun, run_by, source_columns, HasRun, HasStopped};
 ghost use Rattle.lid_top_clock.specs.Stepping.{IsFed, IsRunOf};
@@ -21,49 +19,56 @@ use lid_stall::Stall;
 use lid_texts_feed::RowFeed;
 use std::thread::Threads;
 
+/// A task, and who makes its cycles.
+#[derive(Drop)]
+struct Staffed<'a, R, G> {
+    task: &'a Task<'a>,
+    workers: &'a Workers<'a, R, G>,
+}
+
 /// Tells a run that has begun: the header, each output row after the cycle in which the sink fired for
 /// it, and the end.
 fn tell_run<S: Shelf, O: Sink, R: Threads + Sync, G: Gate>(
     shelf: &mut S,
     out: &mut O,
-    task: &Task<'_>,
+    staffed: &Staffed<'_, R, G>,
     feed: &mut RowFeed,
     run: &mut Running,
     telling: &mut Telling,
-    workers: &Workers<'_, R, G>,
 ) -> Result<(), RunFault>
-    requires some { 0 < workers.now.many }
-    requires fed { (r : ClockRun) × (given : List (List Bool)) × IsRunOf r task.now.system.now task.now.columns.now
+    requires some { 0 < staffed.now.workers.now.many }
+    requires fed { (r : ClockRun) × (given : List (List Bool)) × IsRunOf r staffed.now.task.now.placed.now.system staffed.now.task.now.columns.now
         × IsFed r (S.held shelf.old feed.old.name) run.old feed.old given }
     requires none { run.old.made ≡ 0 }
     requires line { telling.old.line.items ≡ [] }
     requires held { telling.old.writer ≡ [] }
-    ensures ok { (r : ClockRun) (given : List (List Bool)) → IsRunOf r task.now.system.now task.now.columns.now
+    ensures ok { (r : ClockRun) (given : List (List Bool)) → IsRunOf r staffed.now.task.now.placed.now.system staffed.now.task.now.columns.now
         → IsFed r (S.held shelf.old feed.old.name) run.old feed.old given
         → OnOk result (HasRun r O.written O.pieces out.old out.new) }
-    ensures err { (r : ClockRun) (given : List (List Bool)) → IsRunOf r task.now.system.now task.now.columns.now
+    ensures err { (r : ClockRun) (given : List (List Bool)) → IsRunOf r staffed.now.task.now.placed.now.system staffed.now.task.now.columns.now
         → IsFed r (S.held shelf.old feed.old.name) run.old feed.old given
         → IfErr result (HasStopped r O.written O.pieces out.old out.new
         (Rose (S.faults shelf.old feed.old.name) (S.faults shelf.new feed.old.name)) (Rose (O.faults out.old) (O.faults out.new))) }
-    ensures fetched { (r : ClockRun) (given : List (List Bool)) (first : Option (List Fetch)) → IsRunOf r task.now.system.now task.now.columns.now
+    ensures fetched { (r : ClockRun) (given : List (List Bool)) (first : Option (List Fetch)) → IsRunOf r staffed.now.task.now.placed.now.system staffed.now.task.now.columns.now
         → IsFed r (S.held shelf.old feed.old.name) run.old feed.old given → FedBy S.whole r run.old.given first (S.fetches shelf.old) feed.old
         → RunFetches S.whole r feed.old.name first (S.fetches shelf.new) (S.faults shelf.old) (S.faults shelf.new) result }
     ensures kept { S.held shelf.new ≡ S.held shelf.old }
     ensures grows { (q : List ℕ) → S.faults shelf.old q ≤ S.faults shelf.new q }
     ensures rises { O.faults out.old ≤ O.faults out.new }
 {
-    if let Err(fault) = telling.tell_header(task.columns, out) {
+    if let Err(fault) = telling.tell_header(staffed.task.columns, out) {
         return Err(fault);
     }
     while run.stream.below() {
-        if let Err(fault) = run.go(shelf, feed, workers) {
+        if let Err(fault) = run.go(shelf, feed, staffed.workers) {
             return Err(fault);
         }
-        if let Err(fault) = telling.tell_last(run.stream.last(), task.columns, out) {
+        if let Err(fault) = telling.tell_last(run.stream.last(), staffed.task.columns, out) {
             return Err(fault);
         }
     }
-    let Ok(()) = run.append_end(task.system.nodes.len() as u32, &mut telling.line) else {
+    let placed = staffed.task.placed;
+    let Ok(()) = run.append_end(placed.system.nodes.len() as u32, &mut telling.line) else {
         return Err(RunFault::Memory);
     };
     telling.finish(out)
@@ -85,20 +90,18 @@ fn tell_run<S: Shelf, O: Sink, R: Threads + Sync, G: Gate>(
 ///
 /// Where the shelf tells its fetches, they are those that the rows need which the run asks for: where it tells the
 /// file too and gives as many bytes as there is room for, exactly those that begin before these rows have ended.
-pub fn run<S: Shelf, O: Sink, R: Threads + AllocGlobal + Sync, G: Gate>(
+pub fn run<'a, S: Shelf, O: Sink, R: Threads + AllocGlobal + Sync, G: Gate>(
     shelf: &mut S,
     out: &mut O,
-    task: &Task<'_>,
+    task: &'a Task<'a>,
     feed: &mut RowFeed,
     stalls: Option<Items<Stall>>,
-    workers: &Workers<'_, R, G>,
+    workers: &'a Workers<'a, R, G>,
 ) -> Result<(), RunFault>
     requires some { 0 < workers.now.many }
-    requires system { IsWellFormed task.now.system.now }
-    requires fits { Fits task.now.system.now task.now.placement.now }
     requires few { task.now.rows ≤ 1000000 }
     requires ascend { Ascend (listed stalls) }
-    requires feeds { HasGiven (S.held shelf.old feed.old.name) (source_columns task.now.system.now) (length task.now.columns.now) feed.old [] }
+    requires feeds { HasGiven (S.held shelf.old feed.old.name) (source_columns task.now.placed.now.system) (length task.now.columns.now) feed.old [] }
     ensures ok { OnOk result (HasRun (run_by task.now stalls (S.held shelf.old feed.old.name)) O.written O.pieces out.old out.new) }
     ensures err { IfErr result (HasStopped (run_by task.now stalls (S.held shelf.old feed.old.name)) O.written O.pieces out.old out.new
         (Rose (S.faults shelf.old feed.old.name) (S.faults shelf.new feed.old.name)) (Rose (O.faults out.old) (O.faults out.new))) }
@@ -118,5 +121,6 @@ pub fn run<S: Shelf, O: Sink, R: Threads + AllocGlobal + Sync, G: Gate>(
     let Ok(mut telling) = Telling::start(alloc) else {
         return Err(RunFault::Memory);
     };
-    tell_run(shelf, out, task, feed, &mut run, &mut telling, workers)
+    let staffed = Staffed { task, workers };
+    tell_run(shelf, out, &staffed, feed, &mut run, &mut telling)
 }

@@ -5,13 +5,11 @@ ghost use Rattle.std.specs.List.{AllByRecursion, sum_by};
 ghost use Rattle.lid_shell_laws.specs.Setups.{IsInputRow};
 ghost use Rattle.lid_design.specs.Network.{Table};
 ghost use Rattle.lid_top_gen.specs.Counts.{HasLife, AreRunCounts};
-ghost use Rattle.lid_stations.specs.Placements.{Fits};
 ghost use Rattle.lid_system.specs.Streams.{output_row};
-ghost use Rattle.lid_system.specs.Systems.{Point, IsWellFormed};
+ghost use Rattle.lid_system.specs.Systems.{Point};
 
 use lid_clock_flat::FlatRows;
-use lid_stations::Placement;
-use lid_system::System;
+use lid_stations::Placed;
 use lid_texts::Rows;
 use std::alloc::{AllocError, Global};
 
@@ -41,19 +39,16 @@ fn row_ones(row: &[bool]) -> u64
 /// Runs a system with its stations clock by clock, and counts.
 pub(crate) fn count_run(
     alloc: Global,
-    system: &System,
-    placement: &Placement,
+    placed: &Placed<'_>,
     rows: &Rows,
 ) -> Result<Count, AllocError>
-    requires system { IsWellFormed system.now }
-    requires fits { Fits system.now placement.now }
     requires few { length rows.now.bits ≤ 1000000 }
-    requires wide { AllByRecursion (IsInputRow system.now) rows.now.bits }
-    requires narrow { (b : Table Point) (t : ℕ) → length (output_row system.now b t) ≤ 4 }
-    requires lives { HasLife system.now placement.now rows.now.bits }
-    ensures { IfOk result (λ count. AreRunCounts system.now placement.now rows.now.bits count.cycles count.ones) }
+    requires wide { AllByRecursion (IsInputRow placed.now.system) rows.now.bits }
+    requires narrow { (b : Table Point) (t : ℕ) → length (output_row placed.now.system b t) ≤ 4 }
+    requires lives { HasLife placed.now.system placed.now.placement rows.now.bits }
+    ensures { IfOk result (λ count. AreRunCounts placed.now.system placed.now.placement rows.now.bits count.cycles count.ones) }
 {
-    let mut run = FlatRows::start(alloc, system, placement, rows)?;
+    let mut run = FlatRows::start(alloc, placed, rows)?;
     let mut cycles = 0;
     let mut ones = 0;
     while run.cycle() {

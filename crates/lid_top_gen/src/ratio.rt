@@ -5,14 +5,12 @@ ghost use Rattle.lid_graph.specs.Rateable.{IsRateable};
 ghost use Rattle.lid_graph.specs.Ratios.{IsRatio};
 ghost use Rattle.lid_shell_laws.specs.Runs.{sink_of};
 ghost use Rattle.lid_stations.specs.Markings.{marking};
-ghost use Rattle.lid_stations.specs.Placements.{links_of, Fits};
-ghost use Rattle.lid_system.specs.Systems.{IsWellFormed};
+ghost use Rattle.lid_stations.specs.Placed.{links_in};
 
 use lid_cert::part_with;
 use lid_graph::Graph;
 use lid_rate::find;
-use lid_stations::{Placement, marking};
-use lid_system::System;
+use lid_stations::{Placed, marking};
 use std::alloc::{AllocError, Global};
 
 /// The ratio p/q of a component, in lowest terms.
@@ -41,16 +39,10 @@ fn ratio_of(alloc: Global, graph: &Graph, v: u32) -> Result<Ratio, AllocError>
     }
 }
 
-/// The ratio of the sink's component in the marked graph of a placement.
-pub(crate) fn sink_ratio(
-    alloc: Global,
-    system: &System,
-    placement: &Placement,
-) -> Result<Ratio, AllocError>
-    requires system { IsWellFormed system.now }
-    requires fits { Fits system.now placement.now }
-    ensures { IfOk result (λ ratio. IsRatio (marking (links_of system.now) placement.now) (sink_of (links_of system.now)) ratio.p ratio.q) }
+/// The ratio of the sink's component in the marked graph of a system with its stations.
+pub(crate) fn sink_ratio(alloc: Global, placed: &Placed<'_>) -> Result<Ratio, AllocError>
+    ensures { IfOk result (λ ratio. IsRatio (marking (links_in placed.now) placed.now.placement) (sink_of (links_in placed.now)) ratio.p ratio.q) }
 {
-    let graph = marking(alloc, system, placement)?;
-    ratio_of(alloc, &graph, (system.nodes.len() - 1) as u32)
+    let graph = marking(alloc, placed.system, placed.placement)?;
+    ratio_of(alloc, &graph, (placed.system.nodes.len() - 1) as u32)
 }

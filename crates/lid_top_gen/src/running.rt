@@ -10,7 +10,6 @@ ghost use Rattle.lid_top_gen.specs.Counts.{AreRunCounts};
 ghost use Rattle.lid_top_gen.specs.Told.{told_of};
 ghost use Rattle.lid_net.specs.Graphs.{IsGraphOf};
 ghost use Rattle.lid_top_script.specs.Generated.{IsSummary, IsSummaryText};
-ghost use Rattle.lid_stations.specs.Placements.{Fits};
 ghost use Rattle.lid_system.specs.declared.Channel.{Channel};
 ghost use Rattle.lid_system.specs.Systems.{IsWellFormed as IsSystem};
 
@@ -26,7 +25,7 @@ use lid_gen_laws::{
     generated_designs_are_accepted, generated_runs_fit, generated_systems_are_small,
 };
 use lid_net::{NetFault, build};
-use lid_stations::Placement;
+use lid_stations::Placed;
 use lid_system::System;
 use std::alloc::{AllocError, Global};
 
@@ -36,20 +35,18 @@ fn count_rows(
     seed: u64,
     shells: u32,
     rows: u32,
-    system: &System,
-    placement: &Placement,
+    placed: &Placed<'_>,
 ) -> Result<Count, AllocError>
     requires sized { size_fault shells ≡ None }
     requires few { rows ≤ 1000000 }
-    requires system { IsSystem system.now }
-    requires fits { Fits system.now placement.now }
-    requires of { IsSystemOf (generated seed shells) system.now }
-    ensures { IfOk result (λ count. AreRunCounts system.now placement.now (generated_rows seed shells rows).bits count.cycles count.ones) }
+    requires of { IsSystemOf (generated seed shells) placed.now.system }
+    ensures { IfOk result (λ count. AreRunCounts placed.now.system placed.now.placement (generated_rows seed shells rows).bits count.cycles count.ones) }
 {
     generated_designs_are_accepted();
     generated_runs_fit();
+    let _ = &placed.system;
     let rows = run_rows(alloc, seed, shells, rows)?;
-    count_run(alloc, system, placement, &rows)
+    count_run(alloc, placed, &rows)
 }
 
 /// What the run of the system of a generated design shows.
@@ -70,8 +67,12 @@ fn summarize(
     generated_designs_are_accepted();
     generated_runs_fit();
     let placement = run_placement(alloc, seed, shells, rows, system)?;
-    let count = count_rows(alloc, seed, shells, rows, system, &placement)?;
-    let ratio = sink_ratio(alloc, system, &placement)?;
+    let placed = Placed {
+        system,
+        placement: &placement,
+    };
+    let count = count_rows(alloc, seed, shells, rows, &placed)?;
+    let ratio = sink_ratio(alloc, &placed)?;
     Ok(Summary {
         shells,
         channels: system.channels.len() as u32,

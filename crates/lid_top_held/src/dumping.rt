@@ -12,6 +12,7 @@ ghost use Rattle.lid_top_held.specs.Traces.{TraceBegins, IsTraceOf, HasFreeLife,
 use crate::run::Fed;
 use lid_base::{Items, Shown};
 use lid_clock_flat::FlatRows;
+use lid_stations::Placed;
 use lid_texts::Trace;
 use lid_vcd::write;
 use std::alloc::{AllocError, Global};
@@ -80,7 +81,11 @@ fn trace_of(alloc: Global, fed: &Fed<'_>, cycles: u64) -> Result<Trace, AllocErr
     ensures { IfOk result (IsTraceOfAll fed.now.wrapped.now fed.now.rows.now.bits cycles) }
 {
     let wrapped = fed.wrapped;
-    let mut run = FlatRows::start(alloc, &wrapped.system, &wrapped.placement, fed.rows)?;
+    let placed = Placed {
+        system: &wrapped.system,
+        placement: &wrapped.placement,
+    };
+    let mut run = FlatRows::start(alloc, &placed, fed.rows)?;
     trace_run(alloc, &mut run, wrapped.placement.caps.len() as u32, cycles)
 }
 

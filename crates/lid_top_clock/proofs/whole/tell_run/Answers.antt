@@ -5,6 +5,7 @@ use Rattle.lid_texts_feed.specs.Feeds.{AreFetchesFor}
 use Rattle.lid_texts_feed.proofs.Needing.{as_needed}
 use Rattle.lid_base.proofs.Results.{on_ok}
 use Rattle.lid_texts.specs.RowsText.{rows_text}
+use Rattle.lid_stations.specs.Placed.{Placing}
 use Rattle.lid_clock.specs.Lives.{IsLast, fired_after, sink}
 use Rattle.lid_clock.specs.Ran.{lent}
 use Rattle.lid_top_clock.specs.RunTexts.{first_outputs, end_text}
@@ -21,7 +22,7 @@ returns-in-Err-clause-err g c = λ r given of fed.
     record {
       rows = given;
       given = fed.running.rows;
-      told = λ l b. header_breaks g.O.Sink.written g.O.Sink.pieces r fed.running.rules.ascend given l b c.args.task.now.columns.now of.named c.args.out.now c.tell_header.new.out c.args.telling.now.writer c.requires.held c.in-Err.ensures.err;
+      told = λ l b. header_breaks g.O.Sink.written g.O.Sink.pieces r fed.running.rules.ascend given l b c.args.staffed.now.task.now.columns.now of.named c.args.out.now c.tell_header.new.out c.args.telling.now.writer c.requires.held c.in-Err.ensures.err;
       cause = cause_of_telling r given (Rose (g.S.Shelf.faults c.args.shelf.now c.args.feed.now.name) (g.S.Shelf.faults c.args.shelf.now c.args.feed.now.name)) (Rose (g.O.Sink.faults c.args.out.now) (g.O.Sink.faults c.tell_header.new.out)) (Rose (g.O.Sink.faults c.args.out.now) (g.O.Sink.faults c.tell_header.new.out)) c.in-Err.fault (λ rose. rose) c.in-Err.ensures.cause;
     }
 
@@ -34,7 +35,7 @@ loop-run-init g c =
         told = λ l b.
             subst (λ (k : ℕ). HasPushed g.O.Sink.written g.O.Sink.pieces c.args.out.now c.tell_header.new.out c.tell_header.new.self.writer (rows_text r.columns (first_outputs l (fired_after l k (sink l)))))
             (sym c.requires.none)
-            (header_told g.O.Sink.written g.O.Sink.pieces r fed.running.rules.ascend given l b c.args.task.now.columns.now of.named c.args.out.now c.tell_header.new.out c.args.telling.now.writer c.tell_header.new.self.writer c.requires.held c.in_default.ensures.ok);
+            (header_told g.O.Sink.written g.O.Sink.pieces r fed.running.rules.ascend given l b c.args.staffed.now.task.now.columns.now of.named c.args.out.now c.tell_header.new.out c.args.telling.now.writer c.tell_header.new.self.writer c.requires.held c.in_default.ensures.ok);
         line = c.in_default.ensures.none;
       };
       came = λ r given first of fed so. (so, λ q. refl);
@@ -79,7 +80,7 @@ returns-in-Err-tell_last-clause-err g c = λ r given of fed.
       told = λ l b.
           last_breaks g.O.Sink.written g.O.Sink.pieces r gone.running.rules.ascend gone.given l b made (lent c.last.result)
           (subst (λ (k : ℕ). IsLast l k (lent c.last.result)) gone.one (c.last.ensures l c.go.new.self.made (length gone.given) (gone.running.lives l b).ran))
-          c.args.out.now c.loop-run.out c.tell_last.new.out c.loop-run.telling.writer (t.told l (gone.further l b)) c.args.task.now.columns.now of.named c.in-Err-tell_last.ensures.err;
+          c.args.out.now c.loop-run.out c.tell_last.new.out c.loop-run.telling.writer (t.told l (gone.further l b)) c.args.staffed.now.task.now.columns.now of.named c.in-Err-tell_last.ensures.err;
       cause =
           cause_of_telling r gone.given (Rose (g.S.Shelf.faults c.args.shelf.now c.args.feed.now.name) (g.S.Shelf.faults c.go.new.shelf c.args.feed.now.name)) (Rose (g.O.Sink.faults c.loop-run.out) (g.O.Sink.faults c.tell_last.new.out)) (Rose (g.O.Sink.faults c.args.out.now) (g.O.Sink.faults c.tell_last.new.out)) c.in-Err-tell_last.fault
           (λ rose. rose_later (g.O.Sink.faults c.args.out.now) (g.O.Sink.faults c.loop-run.out) (g.O.Sink.faults c.tell_last.new.out) c.loop-run.invariant.rises rose) c.in-Err-tell_last.ensures.cause;
@@ -117,7 +118,7 @@ loop-run-preserved g c =
                 (sym gone.one)
                 (last_told g.O.Sink.written g.O.Sink.pieces r gone.running.rules.ascend gone.given l b made (lent c.last.result)
                 (subst (λ (k : ℕ). IsLast l k (lent c.last.result)) gone.one (c.last.ensures l c.go.new.self.made (length gone.given) (gone.running.lives l b).ran))
-                c.args.out.now c.loop-run.out c.tell_last.new.out c.loop-run.telling.writer (t.told l (gone.further l b)) c.args.task.now.columns.now of.named c.tell_last.new.self.writer c.in_default-tell_last.ensures.ok);
+                c.args.out.now c.loop-run.out c.tell_last.new.out c.loop-run.telling.writer (t.told l (gone.further l b)) c.args.staffed.now.task.now.columns.now of.named c.tell_last.new.self.writer c.in_default-tell_last.ensures.ok);
             line = c.in_default-tell_last.ensures.none;
           };
       came = λ r given first of fed so.
@@ -135,7 +136,7 @@ pub append_end-requires : goal.append_end-requires
 append_end-requires g c =
     let start = c.requires.fed in
     let t = c.loop-run.invariant.telling start.0 start.1 start.2 start.3 in
-    (start.0, t.given, t.fed.running, c.len.ensures ∙ ap (λ s. length s.nodes) (sym start.2.of))
+    (start.0, t.given, t.fed.running, c.len.ensures ∙ ap (λ (v : Placing). length v.system.nodes) c.placed.view_is ∙ ap (λ s. length s.nodes) (sym start.2.of))
 
 pub returns-in_default-append_end-clause-err : goal.returns-in_default-append_end-clause-err
 returns-in_default-append_end-clause-err g c = λ r given of fed.
@@ -156,7 +157,7 @@ returns-clause-ok g c = λ r given of fed.
       given = t.fed.running.rows;
       told =
           over_told g.O.Sink.written g.O.Sink.pieces r _ _ _ _ _ _ t _ c.below.ensures c.loop-run-test.false c.finish.new.out c.append_end.new.into.items
-          (λ l b. c.in-Ok.ensures r t.given l t.fed.running b (c.len.ensures ∙ ap (λ s. length s.nodes) (sym of.of)) ∙ ap (λ (xs : List ℕ). xs ++ end_text l r.stalls r.trace c.loop-run.run.made) t.line) close;
+          (λ l b. c.in-Ok.ensures r t.given l t.fed.running b (c.len.ensures ∙ ap (λ (v : Placing). length v.system.nodes) c.placed.view_is ∙ ap (λ s. length s.nodes) (sym of.of)) ∙ ap (λ (xs : List ℕ). xs ++ end_text l r.stalls r.trace c.loop-run.run.made) t.line) close;
     })
     c.finish.ensures.ok
 
@@ -169,7 +170,7 @@ returns-clause-err g c = λ r given of fed.
       given = t.fed.running.rows;
       told =
           over_breaks g.O.Sink.written g.O.Sink.pieces r _ _ _ _ _ _ t _ c.below.ensures c.loop-run-test.false c.finish.new.out c.append_end.new.into.items
-          (λ l b. c.in-Ok.ensures r t.given l t.fed.running b (c.len.ensures ∙ ap (λ s. length s.nodes) (sym of.of)) ∙ ap (λ (xs : List ℕ). xs ++ end_text l r.stalls r.trace c.loop-run.run.made) t.line) break;
+          (λ l b. c.in-Ok.ensures r t.given l t.fed.running b (c.len.ensures ∙ ap (λ (v : Placing). length v.system.nodes) c.placed.view_is ∙ ap (λ s. length s.nodes) (sym of.of)) ∙ ap (λ (xs : List ℕ). xs ++ end_text l r.stalls r.trace c.loop-run.run.made) t.line) break;
       cause =
           cause_of_telling r t.given (Rose (g.S.Shelf.faults c.args.shelf.now c.args.feed.now.name) (g.S.Shelf.faults c.loop-run.shelf c.args.feed.now.name)) (Rose (g.O.Sink.faults c.loop-run.out) (g.O.Sink.faults c.finish.new.out)) (Rose (g.O.Sink.faults c.args.out.now) (g.O.Sink.faults c.finish.new.out)) fault
           (λ rose. rose_later (g.O.Sink.faults c.args.out.now) (g.O.Sink.faults c.loop-run.out) (g.O.Sink.faults c.finish.new.out) c.loop-run.invariant.rises rose) cause;

@@ -12,19 +12,16 @@ use Rattle.lid_top_gen.proofs.Lives.{has_table}
 use Rattle.lid_top_gen.proofs.Summaries.{run_wide, is_summary}
 use Rattle.lid_top_gen.proofs.running.summarize.Goals as goal
 
-pub count_rows-requires-clause-fits : goal.count_rows-requires-clause-fits
-count_rows-requires-clause-fits c =
+pub invariant_of-placed : goal.invariant_of-placed
+invariant_of-placed c =
     let s = c.args.system.now in
     let fit = c.generated_runs_fit.ensures in
-    subst (Fits s) (sym c.in_ok-placement.ensures)
-    (generated_fits c.args.seed c.args.shells c.args.rows s c.requires.system.few (fit.relays c.args.seed c.args.shells c.args.rows (length s.channels)) (fit.few c.args.seed c.args.shells c.args.rows (length s.channels)))
-
-pub sink_ratio-requires-clause-fits : goal.sink_ratio-requires-clause-fits
-sink_ratio-requires-clause-fits c =
-    let s = c.args.system.now in
-    let fit = c.generated_runs_fit.ensures in
-    subst (Fits s) (sym c.in_ok-placement.ensures)
-    (generated_fits c.args.seed c.args.shells c.args.rows s c.requires.system.few (fit.relays c.args.seed c.args.shells c.args.rows (length s.channels)) (fit.few c.args.seed c.args.shells c.args.rows (length s.channels)))
+    record {
+      formed = c.requires.system;
+      fits =
+          subst (Fits s) (sym c.in_ok-placement.ensures)
+          (generated_fits c.args.seed c.args.shells c.args.rows s c.requires.system.few (fit.relays c.args.seed c.args.shells c.args.rows (length s.channels)) (fit.few c.args.seed c.args.shells c.args.rows (length s.channels)));
+    }
 
 pub returns : goal.returns
 returns c =

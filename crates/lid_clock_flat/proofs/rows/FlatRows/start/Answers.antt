@@ -14,7 +14,7 @@ pub returns : goal.returns
 returns c l free of stations =
     let count = c.len-count.result in
     let many : length l.setup.input ≡ count = ap length free.input ∙ sym c.len-count.ensures in
-    let starts : StartsSo l c.args.system.now c.args.placement.now count (option_map (λ row. row.now) c.first_of-first.result) = record {
+    let starts : StartsSo l c.args.placed.now.system c.args.placed.now.placement count (option_map (λ row. row.now) c.first_of-first.result) = record {
       rules = free.rules;
       of = of;
       stations = stations;

@@ -1,5 +1,6 @@
 use Rattle.std.proofs.Common.{◌≡◌, ◌<◌, ◌+◌, min, ℕ, List, [], ◌∷◌, length, Bool, Option, None, Some, slice_get, refl, sym, ◌∙◌, ap, subst, arith}
 use Rattle.lid_base.proofs.Results.{if_ok}
+use Rattle.lid_stations.specs.Placed.{Placing, IsPlaced}
 use Rattle.lid_stall_text.specs.declared.stalls.Stall.{Stall}
 use Rattle.lid_stall_text.specs.Holds.{Ascend, listed}
 use Rattle.lid_top_clock.specs.Runnings.{ClockRun}
@@ -16,21 +17,22 @@ none_first (row ∷ rows) none = absurd (omega arith)
 pub begin-requires-2-clause-first : goal.begin-requires-2-clause-first
 begin-requires-2-clause-first g c =
     let some : 0 < c.args.task.now.rows = (let not = c.if-task-eq0.false in omega (arith, not)) in
-    let r : ClockRun = record { system = c.args.task.now.system.now; placement = c.args.task.now.placement.now; columns = c.requires.feeds.0; rows = c.args.task.now.rows; trace = c.args.task.now.trace; stalls = c.args.stalls; held = g.S.Shelf.held c.args.shelf.now c.args.feed.now.name } in
+    let r : ClockRun = record { system = c.args.task.now.placed.now.system; placement = c.args.task.now.placed.now.placement; columns = c.requires.feeds.0; rows = c.args.task.now.rows; trace = c.args.task.now.trace; stalls = c.args.stalls; held = g.S.Shelf.held c.args.shelf.now c.args.feed.now.name } in
     let gave = c.in-Ok.ensures.ok r [] refl c.requires.feeds.1 in
-    (some, wide_row c.args.task.now.system.now c.as_slice.result.now (ap length c.as_slice.ensures ∙ gave.wide))
+    (some, wide_row c.args.task.now.placed.now.system c.as_slice.result.now (ap length c.as_slice.ensures ∙ gave.wide))
 
 -- no row is fetched where there is none
 pub returns-then-task-eq0-clause-ok : goal.returns-then-task-eq0-clause-ok
 returns-then-task-eq0-clause-ok g c = λ r system stations many most same told feeds.
     let none : c.args.task.now.rows ≡ 0 = c.if-task-eq0.true in
-    let sound = sound_of r c.args.task.now.system.now c.args.task.now.placement.now c.args.task.now.rows system stations many c.requires.system c.requires.fits c.requires.few
+    let placed : IsPlaced c.args.task.now.placed.now.system c.args.task.now.placed.now.placement = subst (λ (v : Placing). IsPlaced v.system v.placement) c.placed.view_is c.placed.invariant in
+    let sound = sound_of r c.args.task.now.placed.now.system c.args.task.now.placed.now.placement c.args.task.now.rows system stations many placed.formed placed.fits c.requires.few
     (subst (λ (xs : Option (List Stall)). Ascend (listed xs)) (sym same) c.requires.ascend)
     in
     if_ok c.begin.result
     (λ run h. record {
       given = [];
-      running = begun r c.args.task.now.system.now c.args.task.now.placement.now c.args.task.now.rows c.args.task.now.trace c.args.stalls system stations many most same sound [] (none_given r) run None h (omega (arith, none))
+      running = begun r c.args.task.now.placed.now.system c.args.task.now.placed.now.placement c.args.task.now.rows c.args.task.now.trace c.args.stalls system stations many most same sound [] (none_given r) run None h (omega (arith, none))
           (λ l b. none_first l.setup.input (b.many ∙ many ∙ none));
       feeds = feeds;
       one = omega (arith, none, many);
@@ -43,14 +45,15 @@ returns-clause-ok g c = λ r system stations many most same told feeds.
     let gave = c.in-Ok.ensures.ok r [] told feeds in
     let some : 0 < c.args.task.now.rows = (let not = c.if-task-eq0.false in omega (arith, not)) in
     let long : 1 ≡ min 1 c.args.task.now.rows = omega (arith, some) in
-    let sound = sound_of r c.args.task.now.system.now c.args.task.now.placement.now c.args.task.now.rows system stations many c.requires.system c.requires.fits c.requires.few
+    let placed : IsPlaced c.args.task.now.placed.now.system c.args.task.now.placed.now.placement = subst (λ (v : Placing). IsPlaced v.system v.placement) c.placed.view_is c.placed.invariant in
+    let sound = sound_of r c.args.task.now.placed.now.system c.args.task.now.placed.now.placement c.args.task.now.rows system stations many placed.formed placed.fits c.requires.few
     (subst (λ (xs : Option (List Stall)). Ascend (listed xs)) (sym same) c.requires.ascend)
     in
     let are = more_given r [] row (none_given r) (subst (λ (n : ℕ). 0 < n) (sym many) some) gave.wide gave.first in
     if_ok c.begin-2.result
     (λ run h. record {
       given = row ∷ [];
-      running = begun r c.args.task.now.system.now c.args.task.now.placement.now c.args.task.now.rows c.args.task.now.trace c.args.stalls system stations many most same sound (row ∷ []) are run (Some c.as_slice.result.now) h long
+      running = begun r c.args.task.now.placed.now.system c.args.task.now.placed.now.placement c.args.task.now.rows c.args.task.now.trace c.args.stalls system stations many most same sound (row ∷ []) are run (Some c.as_slice.result.now) h long
           (λ l b. next_row_is r [] row l b ∙ ap Some (sym c.as_slice.ensures));
       feeds = gave.gives;
       one = omega (arith, long, many);
