@@ -24,7 +24,7 @@ pub(crate) fn lay_out_all(
     requires { IsSystemOf checked.now placed.now.system }
     ensures { IfOk result (IsCircuitLaidOut checked.now placed.now.system placed.now.placement) }
 {
-    let shells = make_shells(alloc, checked, placed.system, placed.placement)?;
+    let shells = make_shells(alloc, checked, placed)?;
     lay_out(alloc, placed.system, placed.placement, shells)
 }
 

@@ -5,7 +5,6 @@ ghost use Rattle.std.specs.List.{AllByRecursion};
 ghost use Rattle.lid_design.specs.Flat.{IsFlat};
 ghost use Rattle.lid_pearl.specs.Pearls.{Shows};
 ghost use Rattle.lid_net_law.specs.Agreement.{IsSystemOf};
-ghost use Rattle.lid_stations.specs.Placements.{Fits};
 ghost use Rattle.lid_system.specs.Systems.{IsWellFormed};
 ghost use Rattle.lid_system.specs.declared.Node.TheVariants as node;
 ghost use Rattle.lid_emit_cells.specs.declared.shell.Shell.{Shell};
@@ -22,7 +21,7 @@ use lid_check::Checked;
 use lid_design::Flat;
 use lid_emit_cells::Shell;
 use lid_pearl::Pearl;
-use lid_stations::Placement;
+use lid_stations::Placed;
 use lid_system::{InBit, Node, System, shells_stand_between_source_and_sink};
 use std::alloc::{AllocError, Global};
 
@@ -33,23 +32,20 @@ pub struct Shells {
     pub begins: Items<Items<bool>>,
 }
 
-/// The shells of a design's system, with the wires of their nets.
+/// The shells of a design's system, whose channels have stations, with the wires of their nets.
 ///
 /// # Errors
 /// Where there is no memory.
 pub fn make_shells(
     alloc: Global,
     checked: &Checked,
-    system: &System,
-    placement: &Placement,
+    placed: &Placed<'_>,
 ) -> Result<Shells, AllocError>
-    requires of { IsSystemOf checked.now system.now }
-    requires system { IsWellFormed system.now }
-    requires fits { Fits system.now placement.now }
-    ensures { IfOk result (AreShells checked.now system.now placement.now) }
+    requires { IsSystemOf checked.now placed.now.system }
+    ensures { IfOk result (AreShells checked.now placed.now.system placed.now.placement) }
 {
-    let shells = shells_of(alloc, checked, system, placement)?;
-    let begins = all_begins(alloc, system)?;
+    let shells = shells_of(alloc, checked, placed)?;
+    let begins = all_begins(alloc, placed.system)?;
     Ok(Shells {
         shells: Items::from_vec(shells),
         begins: Items::from_vec(begins),
@@ -60,18 +56,15 @@ pub fn make_shells(
 fn shells_of(
     alloc: Global,
     checked: &Checked,
-    system: &System,
-    placement: &Placement,
+    placed: &Placed<'_>,
 ) -> Result<Vec<Shell>, AllocError>
-    requires of { IsSystemOf checked.now system.now }
-    requires system { IsWellFormed system.now }
-    requires fits { Fits system.now placement.now }
-    ensures count { IfOk result (λ shells. length system.now.nodes ≡ length shells.items + 2) }
+    requires { IsSystemOf checked.now placed.now.system }
+    ensures count { IfOk result (λ shells. length placed.now.system.nodes ≡ length shells.items + 2) }
     ensures each { IfOk result (λ shells. (i : ℕ) (shell : Shell) → slice_get shells.items i ≡ Some shell
-        → IsMadeShell checked.now system.now (lasts_from 0 placement.now.relays) (i + 1) shell) }
+        → IsMadeShell checked.now placed.now.system (lasts_from 0 placed.now.placement.relays) (i + 1) shell) }
 {
-    let lasts = last_stations(alloc, placement.relays.as_slice())?;
-    all_shells(alloc, checked, system, lasts.as_slice())
+    let lasts = last_stations(alloc, placed.placement.relays.as_slice())?;
+    all_shells(alloc, checked, placed.system, lasts.as_slice())
 }
 
 /// The shells of a design's system, by the last stations of channels.
