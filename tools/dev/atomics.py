@@ -10,7 +10,7 @@ say that `Void` and `Stop` come only where this load found nothing, at a hand wi
   after no `return`, and no other function makes any. What the two looks answer hangs on the loaded word alone.
 - `lid_shell`: each of the four steps at a desk makes one call of the board; a step of an actor comes to one of them.
 - Elsewhere: no crate names `atomic_table`, and the threads of `lid_free_crew` and `lid_free` look, take and put by
-  turns of actors alone. Where the kit is here, that no operation of its `atomic_table` is unknown.
+  turns of actors alone, and split and join no hand. Where the kit is here, that no operation of its `atomic_table` is unknown.
 
 It reads text, and takes a form that it does not know for a fault. Then it tries itself: each of the small wrong changes
 of `atomics_tries.txt`, in a copy, must be refused. It says what holds; else a line for each fault, and status 1.
@@ -31,6 +31,8 @@ from arguments import parser_of
 
 TOP = Path(__file__).resolve().parents[2]
 BOARD, SHELL, THREADS = "lid_board", "lid_shell", ("lid_free_crew", "lid_free")
+# the files of these in which ends go from hand to hand
+HANDS = ("lid_free_crew/src/hiring.rt", "lid_free_crew/src/gathering.rt")
 
 # the functions of `lid_board` that make an operation of `atomic_table`, each with which, and where it is not made on
 # every way through. `start` makes one on a table of its own, for the key.
@@ -254,6 +256,8 @@ def faults_elsewhere(sources: dict[str, str]) -> list[str]:
             faults.append(f"{file}: it names atomic_table, of which {BOARD} alone makes boards")
         if crate in THREADS and (call := re.search(r"(?:\.|::)(look_in|look_out|take|put|step)\b", code)):
             faults.append(f"{file}: {call[1]}: a thread makes turns of actors alone")
+        if crate in THREADS and file not in HANDS and (call := re.search(r"(?:\.|::)(split|join)\b", code)):
+            faults.append(f"{file}: {call[1]}: hands are split and joined before and after all turns")
     return faults
 
 
