@@ -4,9 +4,9 @@ the function that it changes is checked over the libraries of a gate, by over.py
 
     tools/dev/edits.py FROM JOBS CRATE..
 
-FROM is a clone in which a gate has built the libraries. A line for each edit: `refused` with the first reason, or
-`PASSED?`, which wants a look: a function can keep its contract while another that calls it fails. `rt ci` alone is the
-verdict.
+FROM is a clone in which a gate has built the libraries. A line for each edit: `refused` with the first reason,
+`PASSED?`, which wants a look (a function can keep its contract while another that calls it fails), or `NOT TRIED`, where
+the prover does not know the function by its name. `rt ci` alone is the verdict.
 """
 
 import os
@@ -22,17 +22,18 @@ from arguments import need, need_top, parser_of
 
 TOP = Path.cwd()
 SAYS = re.compile(r"no proof|not proved|\berror:")
+LOST = re.compile(r"several functions are named|has no function")
 
 
-def function_at(source: str, place: int) -> str | None:
-    """The function in which a place stands, with the type of its methods."""
+def function_at(module: str, source: str, place: int) -> str | None:
+    """The function in which a place stands, with its module; a method with its type and trait."""
     before = source[:place]
     functions = re.findall(r"^( *)(?:pub(?:\(\w+\))? )?(?:const )?fn (\w+)", before, re.M)
     if not functions:
         return None
     indent, name = functions[-1]
-    types = re.findall(r"^impl(?:<[^{]*?>)? (?:[\w<>', ]+ for )?(\w+)", before, re.M)
-    return f"{types[-1]}::{name}" if indent and types else name
+    types = re.findall(r"^impl(?:<[^{]*?>)? (?:(\w+)(?:<[^{]*?>)? for )?(\w+)", before, re.M)
+    return f"{types[-1][1]}{types[-1][0]}::{name}" if indent and types else f"{module}::{name}"
 
 
 def make(edit: Path, folder: Path) -> set[str | None]:
@@ -44,7 +45,8 @@ def make(edit: Path, folder: Path) -> set[str | None]:
         source = path.read_text()
         if word == "old":
             old = text
-            changed.add(function_at(source, source.index(old)))
+            module = folder.name if path.stem == "lib" else f"{folder.name}::{path.stem}"
+            changed.add(function_at(module, source, source.index(old)))
         elif word == "new":
             path.write_text(source.replace(old, text))
     return changed
@@ -59,6 +61,8 @@ def tried(edit: Path, clone: Path, libraries: str) -> str:
     env = {**os.environ, "OVER": str(clone / "over")}
     ran = subprocess.run(words, cwd=clone, env=env, stdout=subprocess.PIPE, stderr=subprocess.STDOUT, errors="replace", check=False)
     said = [line for line in ran.stdout.splitlines() if SAYS.search(line)]
+    if said and LOST.search(said[0]):
+        return f"{crate}/{edit.stem}: NOT TRIED: {said[0][:160]}"
     return f"{crate}/{edit.stem}: {'refused: ' + said[0][:160] if said else 'PASSED?'}"
 
 
