@@ -2,3 +2,4 @@ pub mod Words
 pub mod Faults
 pub mod Names
 pub mod Designs
+pub mod Joins

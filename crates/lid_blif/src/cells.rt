@@ -8,11 +8,10 @@ ghost use Rattle.lid_blif.specs.Faults.{ends_in_zero};
 ghost use Rattle.lid_blif.specs.Designs.{IsNarrow, mask_of, is_cared_for, is_character_one, cube_of, cover_of, names_cell, kind_of, control_of, init_of, latch_cell, bind_of, inst_of, cell_before};
 
 use crate::keyword::Keyword;
+use crate::line::{TextLine, Word, copy_words, last_word, word_at, words_after};
 use crate::shapes::{actual, formal, has_init, has_type};
 use crate::words::{is_zero_row, keyword, leading_rows};
-use lid_base::{
-    Items, Line, Name, copy_name, copy_names, is_same, last_word, word_at, words_after,
-};
+use lid_base::{Items, Name, copy_name, is_same};
 use lid_cover::{Cover, Cube};
 use lid_design::{Bind, Cell, Init, Inst, LatchKind};
 use std::alloc::{AllocError, Global};
@@ -34,11 +33,11 @@ fn cube_from(characters: &[u8]) -> Cube
     Cube { care, value }
 }
 
-fn cube_of(inputs: usize, row: &Line) -> Cube
+fn cube_of(inputs: usize, row: &TextLine<'_>) -> Cube
     requires { inputs ≤ 64 }
     ensures { result ≡ cube_of inputs row.now }
 {
-    let characters = word_at(row.words.as_slice(), 0);
+    let characters = word_at(row.words(), 0);
     if inputs < characters.len() {
         cube_from(&characters[..inputs])
     } else {
@@ -46,18 +45,18 @@ fn cube_of(inputs: usize, row: &Line) -> Cube
     }
 }
 
-fn cubes_of(alloc: Global, inputs: usize, rows: &[Line]) -> Result<Items<Cube>, AllocError>
+fn cubes_of(alloc: Global, inputs: usize, rows: &[TextLine<'_>]) -> Result<Items<Cube>, AllocError>
     requires { inputs ≤ 64 }
     ensures { IfOk result (λ cubes. cubes ≡ map (cube_of inputs) rows.now) }
 {
-    let mut cubes = Vec::new(alloc);
+    let mut cubes = Vec::with_capacity(alloc, rows.len())?;
     for row in rows {
         cubes.push(cube_of(inputs, row))?;
     }
     Ok(Items::from_vec(cubes))
 }
 
-fn has_zero(rows: &[Line]) -> bool
+fn has_zero(rows: &[TextLine<'_>]) -> bool
     ensures { result ≡ list_any ends_in_zero rows.now }
 {
     for row in rows {
@@ -68,7 +67,7 @@ fn has_zero(rows: &[Line]) -> bool
     false
 }
 
-fn cover_of(alloc: Global, words: &[Name], rows: &[Line]) -> Result<Cover, AllocError>
+fn cover_of(alloc: Global, words: &[Word<'_>], rows: &[TextLine<'_>]) -> Result<Cover, AllocError>
     requires { inputs_of words.now ≤ 64 }
     ensures { IfOk result (λ cover. cover ≡ cover_of words.now rows.now) }
 {
@@ -81,7 +80,7 @@ fn cover_of(alloc: Global, words: &[Name], rows: &[Line]) -> Result<Cover, Alloc
     })
 }
 
-fn inputs_of(words: &[Name]) -> &[Name]
+fn inputs_of<'w, 't>(words: &'w [Word<'t>]) -> &'w [Word<'t>]
     ensures { result.now ≡ take (inputs_of words.now) (drop 1 words.now) }
 {
     if words.len() < 2 {
@@ -91,17 +90,17 @@ fn inputs_of(words: &[Name]) -> &[Name]
     }
 }
 
-fn names_cell(alloc: Global, words: &[Name], rows: &[Line]) -> Result<Cell, AllocError>
+fn names_cell(alloc: Global, words: &[Word<'_>], rows: &[TextLine<'_>]) -> Result<Cell, AllocError>
     requires { inputs_of words.now ≤ 64 }
     ensures { IfOk result (λ cell. cell ≡ names_cell words.now rows.now) }
 {
-    let inputs = copy_names(alloc, inputs_of(words))?;
+    let inputs = copy_words(alloc, inputs_of(words))?;
     let out = copy_name(alloc, last_word(words))?;
     let cover = cover_of(alloc, words, rows)?;
     Ok(Cell::Names { inputs, out, cover })
 }
 
-fn kind_of(words: &[Name]) -> LatchKind
+fn kind_of(words: &[Word<'_>]) -> LatchKind
     ensures { result ≡ kind_of words.now }
 {
     if !has_type(words) {
@@ -113,7 +112,7 @@ fn kind_of(words: &[Name]) -> LatchKind
     }
 }
 
-fn control_of(alloc: Global, words: &[Name]) -> Result<Option<Name>, AllocError>
+fn control_of(alloc: Global, words: &[Word<'_>]) -> Result<Option<Name>, AllocError>
     ensures { IfOk result (λ control. control ≡ control_of words.now) }
 {
     let name = word_at(words, 4);
@@ -124,7 +123,7 @@ fn control_of(alloc: Global, words: &[Name]) -> Result<Option<Name>, AllocError>
     Ok(Some(name))
 }
 
-fn init_of(words: &[Name]) -> Init
+fn init_of(words: &[Word<'_>]) -> Init
     ensures { result ≡ init_of words.now }
 {
     let init: &[u8] = if has_init(words) {
@@ -140,7 +139,7 @@ fn init_of(words: &[Name]) -> Init
     }
 }
 
-fn latch_cell(alloc: Global, words: &[Name]) -> Result<Cell, AllocError>
+fn latch_cell(alloc: Global, words: &[Word<'_>]) -> Result<Cell, AllocError>
     ensures { IfOk result (λ cell. cell ≡ latch_cell words.now) }
 {
     let input = copy_name(alloc, word_at(words, 1))?;
@@ -158,15 +157,15 @@ fn latch_cell(alloc: Global, words: &[Name]) -> Result<Cell, AllocError>
 /// Appends the cell of a line, if it has one. `later` has the lines after it.
 pub fn push_cell(
     alloc: Global,
-    line: &Line,
-    later: &[Line],
+    line: &TextLine<'_>,
+    later: &[TextLine<'_>],
     cells: &mut Vec<Cell>,
 ) -> Result<(), AllocError>
     requires { IsNarrow line.now }
     ensures { OnOk result ((more : List Cell)
         → cells.new.items ++ more ≡ cells.old.items ++ cell_before (keyword_of line.now.words) line.now.words later.now more) }
 {
-    let words = line.words.as_slice();
+    let words = line.words();
     match keyword(line) {
         Keyword::Names => {
             let cell = names_cell(alloc, words, leading_rows(later))?;
@@ -189,10 +188,10 @@ fn bind_of(alloc: Global, word: &[u8]) -> Result<Bind, AllocError>
     Ok(Bind { formal, actual })
 }
 
-fn binds_of(alloc: Global, words: &[Name]) -> Result<Items<Bind>, AllocError>
+fn binds_of(alloc: Global, words: &[Word<'_>]) -> Result<Items<Bind>, AllocError>
     ensures { IfOk result (λ binds. binds ≡ map bind_of words.now) }
 {
-    let mut binds = Vec::new(alloc);
+    let mut binds = Vec::with_capacity(alloc, words.len())?;
     for word in words {
         let bind = bind_of(alloc, word.as_slice())?;
         binds.push(bind)?;
@@ -201,10 +200,10 @@ fn binds_of(alloc: Global, words: &[Name]) -> Result<Items<Bind>, AllocError>
 }
 
 /// The instance of a `.subckt` line.
-pub fn inst_of(alloc: Global, line: &Line) -> Result<Inst, AllocError>
+pub fn inst_of(alloc: Global, line: &TextLine<'_>) -> Result<Inst, AllocError>
     ensures { IfOk result (λ inst. inst ≡ inst_of line.now) }
 {
-    let words = line.words.as_slice();
+    let words = line.words();
     let model = copy_name(alloc, word_at(words, 1))?;
     let binds = binds_of(alloc, words_after(words, 2))?;
     Ok(Inst { model, binds })

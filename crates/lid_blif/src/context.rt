@@ -1,8 +1,8 @@
 ghost use Rattle.std.specs.Prelude.{◌≡◌, ◌+◌, ◌<◌, ◌^◌, ◌||◌, true, false, List, [], ◌∷◌};
 
 use crate::keyword::Keyword;
+use crate::line::TextLine;
 use crate::words::{is_one_row, is_zero_row, keyword};
-use lid_base::Line;
 
 /// What the lines so far mean for the next line.
 #[derive(Clone, Copy)]
@@ -43,7 +43,7 @@ impl Context {
     }
 
     /// The context of the line after this one.
-    pub fn after(self, line: &Line) -> Context
+    pub fn after(self, line: &TextLine<'_>) -> Context
         requires rows { self.rows + 1 < 2 ^ 64 }
         requires models { self.models + 1 < 2 ^ 64 }
         ensures { (before : List Line) → self ≡ context_of before → result ≡ context_of (line.now ∷ before) }
@@ -51,7 +51,7 @@ impl Context {
         match keyword(line) {
             Keyword::Model => self.with_model(),
             Keyword::End => self.without_cover(false),
-            Keyword::Names => self.with_cover(line.words.len().saturating_sub(2)),
+            Keyword::Names => self.with_cover(line.words().len().saturating_sub(2)),
             Keyword::Row => self.with_row(is_zero_row(line), is_one_row(line)),
             _ => self.without_cover(self.inside),
         }

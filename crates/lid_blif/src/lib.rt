@@ -4,8 +4,10 @@
 
 mod cells;
 mod context;
+mod cutting;
 mod fault;
 mod keyword;
+mod line;
 mod models;
 mod reader;
 mod scan;

@@ -6,24 +6,29 @@ ghost use Rattle.lid_blif.specs.Designs.{IsNarrow, cells_of, insts_of, names_of,
 
 use crate::cells::{inst_of, push_cell};
 use crate::keyword::Keyword;
+use crate::line::{TextLine, push_copies, word_at, words_after};
 use crate::words::{is_line, leading_inner};
-use lid_base::{Items, Line, Name, copy_name, push_copies, word_at, words_after};
+use lid_base::{Items, Name, copy_name};
 use lid_design::{Cell, Design, Inst, Model};
 use std::alloc::{AllocError, Global};
 
-fn names_of(alloc: Global, wanted: Keyword, body: &[Line]) -> Result<Items<Name>, AllocError>
+fn names_of(
+    alloc: Global,
+    wanted: Keyword,
+    body: &[TextLine<'_>],
+) -> Result<Items<Name>, AllocError>
     ensures { IfOk result (λ names. names ≡ names_of wanted body.now) }
 {
     let mut names = Vec::new(alloc);
     for line in body {
         if is_line(wanted, line) {
-            push_copies(alloc, words_after(line.words.as_slice(), 1), &mut names)?;
+            push_copies(alloc, words_after(line.words(), 1), &mut names)?;
         }
     }
     Ok(Items::from_vec(names))
 }
 
-fn cells_of(alloc: Global, body: &[Line]) -> Result<Items<Cell>, AllocError>
+fn cells_of(alloc: Global, body: &[TextLine<'_>]) -> Result<Items<Cell>, AllocError>
     requires { AllByRecursion IsNarrow body.now }
     ensures { IfOk result (λ cells. cells ≡ cells_of body.now) }
 {
@@ -34,7 +39,7 @@ fn cells_of(alloc: Global, body: &[Line]) -> Result<Items<Cell>, AllocError>
     Ok(Items::from_vec(cells))
 }
 
-fn insts_of(alloc: Global, body: &[Line]) -> Result<Items<Inst>, AllocError>
+fn insts_of(alloc: Global, body: &[TextLine<'_>]) -> Result<Items<Inst>, AllocError>
     ensures { IfOk result (λ insts. insts ≡ insts_of body.now) }
 {
     let mut insts = Vec::new(alloc);
@@ -55,7 +60,7 @@ struct Ports {
     clocks: Items<Name>,
 }
 
-fn ports_of(alloc: Global, body: &[Line]) -> Result<Ports, AllocError>
+fn ports_of(alloc: Global, body: &[TextLine<'_>]) -> Result<Ports, AllocError>
     ensures inputs { IfOk result (λ ports. ports.inputs ≡ names_of Keyword.Inputs body.now) }
     ensures outputs { IfOk result (λ ports. ports.outputs ≡ names_of Keyword.Outputs body.now) }
     ensures clocks { IfOk result (λ ports. ports.clocks ≡ names_of Keyword.Clock body.now) }
@@ -77,7 +82,7 @@ struct Parts {
     insts: Items<Inst>,
 }
 
-fn parts_of(alloc: Global, body: &[Line]) -> Result<Parts, AllocError>
+fn parts_of(alloc: Global, body: &[TextLine<'_>]) -> Result<Parts, AllocError>
     requires { AllByRecursion IsNarrow body.now }
     ensures cells { IfOk result (λ parts. parts.cells ≡ cells_of body.now) }
     ensures insts { IfOk result (λ parts. parts.insts ≡ insts_of body.now) }
@@ -88,7 +93,7 @@ fn parts_of(alloc: Global, body: &[Line]) -> Result<Parts, AllocError>
 }
 
 #[tactic(auto, unfolding(crate::specs::Designs::model_of))]
-fn model_of(alloc: Global, name: &[u8], body: &[Line]) -> Result<Model, AllocError>
+fn model_of(alloc: Global, name: &[u8], body: &[TextLine<'_>]) -> Result<Model, AllocError>
     requires { AllByRecursion IsNarrow body.now }
     ensures { IfOk result (λ model. model ≡ model_of name.now body.now) }
 {
@@ -111,7 +116,7 @@ fn model_of(alloc: Global, name: &[u8], body: &[Line]) -> Result<Model, AllocErr
     })
 }
 
-fn models_of(alloc: Global, lines: &[Line]) -> Result<Items<Model>, AllocError>
+fn models_of(alloc: Global, lines: &[TextLine<'_>]) -> Result<Items<Model>, AllocError>
     requires { AllByRecursion IsNarrow lines.now }
     ensures { IfOk result (λ models. models ≡ models_of lines.now) }
 {
@@ -119,7 +124,7 @@ fn models_of(alloc: Global, lines: &[Line]) -> Result<Items<Model>, AllocError>
     for (at, line) in lines.iter().enumerate() {
         if is_line(Keyword::Model, line) {
             let body = leading_inner(&lines[at + 1..]);
-            let model = model_of(alloc, word_at(line.words.as_slice(), 1), body)?;
+            let model = model_of(alloc, word_at(line.words(), 1), body)?;
             models.push(model)?;
         }
     }
@@ -128,7 +133,7 @@ fn models_of(alloc: Global, lines: &[Line]) -> Result<Items<Model>, AllocError>
 
 /// The design that some lines stand for.
 #[tactic(auto, unfolding(crate::specs::Designs::design_of))]
-pub fn design_of(alloc: Global, lines: &[Line]) -> Result<Design, AllocError>
+pub fn design_of(alloc: Global, lines: &[TextLine<'_>]) -> Result<Design, AllocError>
     requires { AllByRecursion IsNarrow lines.now }
     ensures { IfOk result (λ design. design ≡ design_of lines.now) }
 {

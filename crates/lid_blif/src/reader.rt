@@ -6,10 +6,12 @@ ghost use Rattle.lid_blif.specs.Faults.{blif_fault, lines_fault};
 ghost use Rattle.lid_blif.specs.Designs.{design_of};
 ghost use Rattle.lid_design.specs.WellFormed.{IsWellFormed};
 
+use crate::cutting::lines;
 use crate::fault::BlifFault;
+use crate::line::TextLine;
 use crate::models::design_of;
 use crate::scan::scan;
-use lid_base::{Line, TextFault, Which, lines};
+use lid_base::{TextFault, Which};
 use lid_design::Design;
 use std::alloc::Global;
 
@@ -27,7 +29,7 @@ fn of_text(fault: TextFault) -> BlifFault
     }
 }
 
-fn design_from(alloc: Global, lines: &[Line]) -> Result<Design, BlifFault>
+fn design_from(alloc: Global, lines: &[TextLine<'_>]) -> Result<Design, BlifFault>
     ensures ok { IfOk result (λ d. (lines_fault lines.now ≡ None) × (d ≡ design_of lines.now)) }
     ensures err { IfErr result (λ e. (e ≡ BlifFault.Memory) ⊎ (lines_fault lines.now ≡ Some e)) }
 {

@@ -9,9 +9,10 @@ ghost use Rattle.lid_blif.specs.Faults.{context_of, model_names, told, no_model_
 use crate::context::Context;
 use crate::fault::BlifFault;
 use crate::keyword::Keyword;
+use crate::line::{TextLine, last_word, word_at, words_after};
 use crate::shapes::{are_bindings, has_init, has_type, is_latch_init, is_latch_type, is_row_of};
 use crate::words::{is_line, is_zero_row, keyword};
-use lid_base::{Line, Which, last_word, word_at, words_after};
+use lid_base::Which;
 use std::alloc::{AllocError, Global};
 use std::collections::HashSet;
 
@@ -27,12 +28,12 @@ fn is_known(names: &HashSet<&[u8]>, name: &[u8]) -> bool
     names.contains(name)
 }
 
-fn model_fault(context: &Context, names: &HashSet<&[u8]>, model: &Line) -> Option<BlifFault>
+fn model_fault(context: &Context, names: &HashSet<&[u8]>, model: &TextLine<'_>) -> Option<BlifFault>
     requires { context.now.models + 1 < 2 ^ 64 }
     ensures { (earlier : List (List ℕ)) → HoldsNames names.now earlier → result ≡ told (model_cases context.now earlier model.now) }
 {
-    let words = model.words.as_slice();
-    let line = model.number;
+    let words = model.words();
+    let line = model.number();
     let models = context.models + 1;
     if words.len() != 2 {
         Some(BlifFault::Arity { line })
@@ -48,11 +49,11 @@ fn model_fault(context: &Context, names: &HashSet<&[u8]>, model: &Line) -> Optio
     }
 }
 
-fn names_fault(context: &Context, cover: &Line) -> Option<BlifFault>
+fn names_fault(context: &Context, cover: &TextLine<'_>) -> Option<BlifFault>
     ensures { result ≡ told (names_cases context.now cover.now) }
 {
-    let words = cover.words.as_slice();
-    let line = cover.number;
+    let words = cover.words();
+    let line = cover.number();
     if !context.inside {
         Some(BlifFault::NoModel { line })
     } else if words.len() < 2 {
@@ -64,11 +65,11 @@ fn names_fault(context: &Context, cover: &Line) -> Option<BlifFault>
     }
 }
 
-fn latch_fault(context: &Context, latch: &Line) -> Option<BlifFault>
+fn latch_fault(context: &Context, latch: &TextLine<'_>) -> Option<BlifFault>
     ensures { result ≡ told (latch_cases context.now latch.now) }
 {
-    let words = latch.words.as_slice();
-    let line = latch.number;
+    let words = latch.words();
+    let line = latch.number();
     if !context.inside {
         Some(BlifFault::NoModel { line })
     } else if words.len() < 3 || words.len() > 6 {
@@ -82,11 +83,11 @@ fn latch_fault(context: &Context, latch: &Line) -> Option<BlifFault>
     }
 }
 
-fn subckt_fault(context: &Context, inst: &Line) -> Option<BlifFault>
+fn subckt_fault(context: &Context, inst: &TextLine<'_>) -> Option<BlifFault>
     ensures { result ≡ told (subckt_cases context.now inst.now) }
 {
-    let words = inst.words.as_slice();
-    let line = inst.number;
+    let words = inst.words();
+    let line = inst.number();
     if !context.inside {
         Some(BlifFault::NoModel { line })
     } else if words.len() < 2 {
@@ -98,7 +99,7 @@ fn subckt_fault(context: &Context, inst: &Line) -> Option<BlifFault>
     }
 }
 
-fn is_mixed(context: &Context, row: &Line) -> bool
+fn is_mixed(context: &Context, row: &TextLine<'_>) -> bool
     ensures { result ≡ is_mixed context.now row.now }
 {
     if is_zero_row(row) {
@@ -108,17 +109,17 @@ fn is_mixed(context: &Context, row: &Line) -> bool
     }
 }
 
-fn row_fault(context: &Context, row: &Line) -> Option<BlifFault>
+fn row_fault(context: &Context, row: &TextLine<'_>) -> Option<BlifFault>
     requires { context.now.rows + 1 < 2 ^ 64 }
     ensures { result ≡ told (row_cases context.now row.now) }
 {
-    let line = row.number;
+    let line = row.number();
     let rows = context.rows + 1;
     if !context.inside {
         Some(BlifFault::NoModel { line })
     } else if !context.covered {
         Some(BlifFault::RowOutside { line })
-    } else if !is_row_of(context.inputs, row.words.as_slice()) {
+    } else if !is_row_of(context.inputs, row.words()) {
         Some(BlifFault::RowShape { line })
     } else if is_mixed(context, row) {
         Some(BlifFault::MixedRows { line })
@@ -133,7 +134,7 @@ fn row_fault(context: &Context, row: &Line) -> Option<BlifFault>
 }
 
 #[tactic(auto, unfolding(crate::specs::Faults::line_fault))]
-fn line_fault(context: &Context, names: &HashSet<&[u8]>, line: &Line) -> Option<BlifFault>
+fn line_fault(context: &Context, names: &HashSet<&[u8]>, line: &TextLine<'_>) -> Option<BlifFault>
     requires rows { context.now.rows + 1 < 2 ^ 64 }
     requires models { context.now.models + 1 < 2 ^ 64 }
     ensures { (earlier : List (List ℕ)) → HoldsNames names.now earlier → result ≡ line_fault context.now earlier line.now }
@@ -144,17 +145,21 @@ fn line_fault(context: &Context, names: &HashSet<&[u8]>, line: &Line) -> Option<
         Keyword::Latch => latch_fault(context, line),
         Keyword::Subckt => subckt_fault(context, line),
         Keyword::Row => row_fault(context, line),
-        Keyword::Unknown if context.inside => Some(BlifFault::Unsupported { line: line.number }),
+        Keyword::Unknown if context.inside => Some(BlifFault::Unsupported {
+            line: line.number(),
+        }),
         _ if context.inside => None,
-        _ => Some(BlifFault::NoModel { line: line.number }),
+        _ => Some(BlifFault::NoModel {
+            line: line.number(),
+        }),
     }
 }
 
-fn remember<'a>(line: &'a Line, names: &mut HashSet<&'a [u8]>) -> Result<(), AllocError>
+fn remember<'a>(line: &'a TextLine<'_>, names: &mut HashSet<&'a [u8]>) -> Result<(), AllocError>
     ensures { OnOk result ((before : List Line) → HoldsNames names.old (model_names before) → HoldsNames names.new (model_names (line.now ∷ before))) }
 {
     if is_line(Keyword::Model, line) {
-        names.insert(word_at(line.words.as_slice(), 1))?;
+        names.insert(word_at(line.words(), 1))?;
     }
     Ok(())
 }
@@ -163,7 +168,7 @@ fn remember<'a>(line: &'a Line, names: &mut HashSet<&'a [u8]>) -> Result<(), All
 ///
 /// # Errors
 /// The fault of that line; `Memory` may come at any lines.
-pub fn scan(alloc: Global, lines: &[Line]) -> Result<(), BlifFault>
+pub fn scan(alloc: Global, lines: &[TextLine<'_>]) -> Result<(), BlifFault>
     ensures ok { OnOk result (first_fault [] lines.now ≡ None) }
     ensures err { IfErr result (λ e. (e ≡ BlifFault.Memory) ⊎ (first_fault [] lines.now ≡ Some e)) }
 {

@@ -6,7 +6,8 @@ ghost use Rattle.lid_blif.specs.declared.keyword.Keyword.TheVariants.{Row};
 ghost use Rattle.lid_blif.specs.Faults.{ends_in_zero, ends_in_one};
 
 use crate::keyword::Keyword;
-use lid_base::{Line, is_same, last_word, word_at};
+use crate::line::{TextLine, last_word};
+use lid_base::is_same;
 
 fn is_dotted(word: &[u8]) -> bool
     ensures { result ≡ begins_with_dot word.now }
@@ -17,8 +18,9 @@ fn is_dotted(word: &[u8]) -> bool
     }
 }
 
+/// What a first word says.
 #[tactic(auto, unfolding(crate::specs::Words::named_keyword))]
-fn named(word: &[u8]) -> Keyword
+pub fn named(word: &[u8]) -> Keyword
     ensures { result ≡ named_keyword word.now }
 {
     if is_same(word, b".model") {
@@ -45,10 +47,10 @@ fn named(word: &[u8]) -> Keyword
 }
 
 /// The keyword of a line.
-pub fn keyword(line: &Line) -> Keyword
+pub fn keyword(line: &TextLine<'_>) -> Keyword
     ensures { result ≡ keyword_of line.now.words }
 {
-    named(word_at(line.words.as_slice(), 0))
+    line.keyword()
 }
 
 fn same(keyword: Keyword, other: Keyword) -> bool
@@ -58,28 +60,28 @@ fn same(keyword: Keyword, other: Keyword) -> bool
 }
 
 /// Whether a line begins with this keyword.
-pub fn is_line(wanted: Keyword, line: &Line) -> bool
+pub fn is_line(wanted: Keyword, line: &TextLine<'_>) -> bool
     ensures { result ≡ is_line wanted line.now }
 {
     same(wanted, keyword(line))
 }
 
 /// Whether a row has the output 0.
-pub fn is_zero_row(row: &Line) -> bool
+pub fn is_zero_row(row: &TextLine<'_>) -> bool
     ensures { result ≡ ends_in_zero row.now }
 {
-    is_same(last_word(row.words.as_slice()), b"0")
+    is_same(last_word(row.words()), b"0")
 }
 
 /// Whether a row has the output 1.
-pub fn is_one_row(row: &Line) -> bool
+pub fn is_one_row(row: &TextLine<'_>) -> bool
     ensures { result ≡ ends_in_one row.now }
 {
-    is_same(last_word(row.words.as_slice()), b"1")
+    is_same(last_word(row.words()), b"1")
 }
 
 /// The rows that some lines begin with.
-pub fn leading_rows(lines: &[Line]) -> &[Line]
+pub fn leading_rows<'l, 't>(lines: &'l [TextLine<'t>]) -> &'l [TextLine<'t>]
     ensures { result.now ≡ leading (is_line Row) lines.now }
 {
     for (at, line) in lines.iter().enumerate() {
@@ -91,7 +93,7 @@ pub fn leading_rows(lines: &[Line]) -> &[Line]
 }
 
 /// The lines up to the first `.model`.
-pub fn leading_inner(lines: &[Line]) -> &[Line]
+pub fn leading_inner<'l, 't>(lines: &'l [TextLine<'t>]) -> &'l [TextLine<'t>]
     ensures { result.now ≡ leading is_inner lines.now }
 {
     for (at, line) in lines.iter().enumerate() {

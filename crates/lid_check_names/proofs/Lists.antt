@@ -1,6 +1,6 @@
 -- Lists of names that grow by a name, and lists of borrowed names.
 use denote.Ref.{Bor}
-use Rattle.std.proofs.Common.{◌≡◌, ℕ, zero, suc, ◌+◌, ◌<◌, ◌&&◌, nat_lt, Some, None, length, take, get_or, subst, arith, zero-add, add-zero, Bool, true, false, not, ◌||◌, cond, if◌then◌else◌, List, [], ◌∷◌, ◌++◌, filter, position, Option, refl, sym, ◌∙◌, ap}
+use Rattle.std.proofs.Common.{◌≡◌, ℕ, zero, suc, ◌+◌, ◌<◌, ◌&&◌, nat_lt, Some, None, length, take, get_or, subst, arith, zero-add, add-zero, Bool, true, false, not, ◌||◌, cond, if◌then◌else◌, List, [], ◌∷◌, ◌++◌, map, filter, position, Option, refl, sym, ◌∙◌, ap}
 use Rattle.std.specs.List.{list_any, count_by, prefix_len}
 use Rattle.std.specs.Str.{bytes_eq}
 use Rattle.std.proofs.lemmas.List.{map-append, append-nil, take_more, length-map}
@@ -10,7 +10,8 @@ use Rattle.std.proofs.lemmas.List.Elements.{filter-append}
 use Rattle.std.proofs.lemmas.List.Folds.{list_any-append}
 use Rattle.std.proofs.lemmas.List.Sums.{sum_by-append}
 use Rattle.lid_base.proofs.Lists.{same_bytes}
-use Rattle.lid_check_names.specs.Names.{is_among, firsts, with_name, texts}
+use Rattle.lid_check_names.specs.declared.word.Word.{Word}
+use Rattle.lid_check_names.specs.Names.{is_among, firsts, with_name, texts, bytes_of}
 
 abbrev pub differs : List ℕ → List ℕ → Bool
 differs name other = not (bytes_eq other name)
@@ -63,35 +64,35 @@ firsts_more (x ∷ xs) n = ap (λ (ns : List (List ℕ)). x ∷ filter (differs 
         ∙ cons_cond (is_among n (firsts xs)) x (filter (differs x) (firsts xs)) (filter (differs x) (firsts xs) ++ n ∷ [])
         ∙ ap (λ (a : Bool). cond a (x ∷ filter (differs x) (firsts xs)) (x ∷ filter (differs x) (firsts xs) ++ n ∷ [])) (sym (is_among_without n x (firsts xs) e))
 
-pub is_among_texts : (n : List ℕ) (refs : List (Bor (List ℕ))) → list_any (λ (r : Bor (List ℕ)). bytes_eq n r.now) refs ≡ is_among n (texts refs)
-is_among_texts n [] = refl
-is_among_texts n (r ∷ refs) = ap (λ (b : Bool). bytes_eq n r.now || b) (is_among_texts n refs)
+pub is_among_words : (n : List ℕ) (words : List Word) → list_any (λ (w : Word). bytes_eq n (bytes_of w)) words ≡ is_among n (map bytes_of words)
+is_among_words n [] = refl
+is_among_words n (w ∷ words) = ap (λ (b : Bool). bytes_eq n (bytes_of w) || b) (is_among_words n words)
 
-prefix_texts : (n : List ℕ) (refs : List (Bor (List ℕ))) → prefix_len (λ (r : Bor (List ℕ)). not (bytes_eq n r.now)) refs ≡ prefix_len (λ (m : List ℕ). not (bytes_eq n m)) (texts refs)
-prefix_texts n [] = refl
-prefix_texts n (r ∷ refs) = ap (λ (k : ℕ). cond (not (bytes_eq n r.now)) (1 + k) 0) (prefix_texts n refs)
+prefix_words : (n : List ℕ) (words : List Word) → prefix_len (λ (w : Word). not (bytes_eq n (bytes_of w))) words ≡ prefix_len (λ (m : List ℕ). not (bytes_eq n m)) (map bytes_of words)
+prefix_words n [] = refl
+prefix_words n (w ∷ words) = ap (λ (k : ℕ). cond (not (bytes_eq n (bytes_of w))) (1 + k) 0) (prefix_words n words)
 
 abbrev pub within : ℕ → ℕ → Option ℕ
 within k len = cond (nat_lt k len) (Some k) None
 
-pub position_texts : (n : List ℕ) (refs : List (Bor (List ℕ))) → position (λ (r : Bor (List ℕ)). bytes_eq n r.now) refs ≡ position (bytes_eq n) (texts refs)
-position_texts n refs =
-    let long : length (texts refs) ≡ length refs = length-map refs _ in
-    ap (λ (k : ℕ). within k (length refs)) (prefix_texts n refs)
-    ∙ ap (within (prefix_len (λ (m : List ℕ). not (bytes_eq n m)) (texts refs))) (sym long)
+pub position_words : (n : List ℕ) (words : List Word) → position (λ (w : Word). bytes_eq n (bytes_of w)) words ≡ position (bytes_eq n) (map bytes_of words)
+position_words n words =
+    let long : length (map bytes_of words) ≡ length words = length-map words _ in
+    ap (λ (k : ℕ). within k (length words)) (prefix_words n words)
+    ∙ ap (within (prefix_len (λ (m : List ℕ). not (bytes_eq n m)) (map bytes_of words))) (sym long)
 
 pub texts_append : (xs ys : List (Bor (List ℕ))) → texts (xs ++ ys) ≡ texts xs ++ texts ys
 texts_append xs ys = map-append _ xs ys
 
--- a set that grows by a borrowed name
-pub texts_insert : (refs : List (Bor (List ℕ))) (r : Bor (List ℕ)) → texts (if list_any (λ (s : Bor (List ℕ)). bytes_eq r.now s.now) refs then refs else refs ++ r ∷ []) ≡ with_name (texts refs) r.now
-texts_insert refs r = by (list_any (λ (s : Bor (List ℕ)). bytes_eq r.now s.now) refs) (is_among r.now (texts refs)) (is_among_texts r.now refs)
+-- a set that grows by a name
+pub words_insert : (words : List Word) (w : Word) → map bytes_of (if list_any (λ (v : Word). bytes_eq (bytes_of w) (bytes_of v)) words then words else words ++ w ∷ []) ≡ with_name (map bytes_of words) (bytes_of w)
+words_insert words w = by (list_any (λ (v : Word). bytes_eq (bytes_of w) (bytes_of v)) words) (is_among (bytes_of w) (map bytes_of words)) (is_among_words (bytes_of w) words)
   where
-    by : (a b : Bool) → a ≡ b → texts (cond a refs (refs ++ r ∷ [])) ≡ cond b (texts refs) (texts refs ++ r.now ∷ [])
+    by : (a b : Bool) → a ≡ b → map bytes_of (cond a words (words ++ w ∷ [])) ≡ cond b (map bytes_of words) (map bytes_of words ++ bytes_of w ∷ [])
     by true true e = refl
     by true false e = cc
     by false true e = cc
-    by false false e = texts_append refs (r ∷ [])
+    by false false e = map-append bytes_of words (w ∷ [])
 
 -- one more borrowed name of a list
 pub texts_more : (refs : List (Bor (List ℕ))) (i : ℕ) (d : Bor (List ℕ)) → i < length refs → texts (take (i + 1) refs) ≡ texts (take i refs) ++ (get_or refs i d).now ∷ []

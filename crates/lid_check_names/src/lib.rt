@@ -3,7 +3,9 @@
 #![tactic(auto)]
 
 mod listing;
+mod seed;
 mod set;
+mod word;
 
 pub use listing::{
     list_formals, list_occurrences, model_at, out_of, push_name, push_names, push_outs, push_reads,

@@ -4,6 +4,8 @@ ghost use Rattle.std.specs.Str.{bytes_eq};
 ghost use Rattle.lid_design.specs.Models.{is_twice};
 ghost use Rattle.lid_check_names.specs.Names.{is_among, firsts, with_name, texts, names_of, IsTally};
 
+use crate::seed::Seeded;
+use crate::word::Word;
 use indexmap::IndexSet;
 use std::alloc::{AllocError, Global};
 use std::marker::Model;
@@ -12,7 +14,7 @@ use std::marker::Model;
 /// order in which they were added.
 #[derive(Drop)]
 pub struct NameSet<'a> {
-    names: IndexSet<&'a [u8]>,
+    names: IndexSet<Word<'a>, Seeded>,
 }
 
 impl<'a> Model for NameSet<'a> {
@@ -29,8 +31,15 @@ impl<'a> NameSet<'a> {
     pub fn new(alloc: Global) -> NameSet<'a>
         ensures { result ≡ [] }
     {
+        NameSet::by(alloc, Seeded::plain())
+    }
+
+    /// A set without names, that hashes by these hashers.
+    fn by(alloc: Global, seeded: Seeded) -> NameSet<'a>
+        ensures { result ≡ [] }
+    {
         NameSet {
-            names: IndexSet::new(alloc),
+            names: IndexSet::with_hasher(alloc, seeded),
         }
     }
 
@@ -38,7 +47,7 @@ impl<'a> NameSet<'a> {
     pub fn collect(alloc: Global, names: &[&'a [u8]]) -> Result<NameSet<'a>, AllocError>
         ensures { IfOk result (λ set. set ≡ firsts (texts names.now)) }
     {
-        let mut set = NameSet::new(alloc);
+        let mut set = NameSet::by(alloc, Seeded::of(names));
         for name in names {
             set.add(name)?;
         }
@@ -71,7 +80,7 @@ impl<'a> NameSet<'a> {
     pub fn name_at(&self, place: usize) -> Option<&'a [u8]>
         ensures { option_map (λ (r : Bor (List ℕ)). r.now) result ≡ slice_get self.now place }
     {
-        self.names.get_index(place).copied()
+        name_in(&self.names, place)
     }
 
     /// How many names there are.
@@ -96,8 +105,9 @@ pub struct NameTally<'a> {
 pub fn tally_names<'a>(alloc: Global, names: &[&'a [u8]]) -> Result<NameTally<'a>, AllocError>
     ensures { IfOk result (λ tally. IsTally (texts names.now) tally.all tally.twice) }
 {
-    let mut all = NameSet::new(alloc);
-    let mut twice = NameSet::new(alloc);
+    let seeded = Seeded::of(names);
+    let mut all = NameSet::by(alloc, seeded);
+    let mut twice = NameSet::by(alloc, seeded);
     for name in names {
         note(&mut all, &mut twice, name)?;
     }
@@ -129,24 +139,34 @@ fn note<'a>(
 }
 
 /// Adds a name after the others, unless it is there already, and answers whether it was new.
-fn add_to<'a>(set: &mut IndexSet<&'a [u8]>, name: &'a [u8]) -> Result<bool, AllocError>
+fn add_to<'a>(set: &mut IndexSet<Word<'a>, Seeded>, name: &'a [u8]) -> Result<bool, AllocError>
     ensures new { IfOk result (λ new. new ≡ not (is_among name.entry.now (names_of set.old))) }
     ensures added { OnOk result (names_of set.new ≡ with_name (names_of set.old) name.entry.now) }
 {
-    let (_, new) = set.insert_full(name)?;
+    let (_, new) = set.insert_full(Word { bytes: name })?;
     Ok(new)
 }
 
 /// Whether a name is in a set.
-fn is_in(set: &IndexSet<&[u8]>, name: &[u8]) -> bool
+fn is_in(set: &IndexSet<Word<'_>, Seeded>, name: &[u8]) -> bool
     ensures { result ≡ is_among name.now (names_of set.now) }
 {
-    set.contains(name)
+    set.contains(&Word { bytes: name })
 }
 
 /// The place of a name in a set.
-fn place_in(set: &IndexSet<&[u8]>, name: &[u8]) -> Option<usize>
+fn place_in(set: &IndexSet<Word<'_>, Seeded>, name: &[u8]) -> Option<usize>
     ensures { result ≡ position (bytes_eq name.now) (names_of set.now) }
 {
-    set.get_index_of(name)
+    set.get_index_of(&Word { bytes: name })
+}
+
+/// The name at a place of a set.
+fn name_in<'a>(set: &IndexSet<Word<'a>, Seeded>, place: usize) -> Option<&'a [u8]>
+    ensures { option_map (λ (r : Bor (List ℕ)). r.now) result ≡ slice_get (names_of set.now) place }
+{
+    match set.get_index(place) {
+        Some(word) => Some(word.bytes),
+        None => None,
+    }
 }

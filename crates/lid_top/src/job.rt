@@ -2,6 +2,7 @@
 
 ghost use Rattle.std.specs.Prelude.{◌≡◌, true, false, OnOk, IfErr};
 ghost use Rattle.lid_base.specs.Outside.{Rose};
+ghost use Rattle.lid_top_clock.specs.Stops.{UnlessUnwritten};
 ghost use Rattle.lid_top_words.specs.Jobs.{IsJobInRange};
 ghost use Rattle.lid_top_script.specs.Scripts.{script_of};
 ghost use Rattle.lid_top_script.specs.Early.{RunsEarly};
@@ -45,6 +46,8 @@ where
     ensures unwritten { IfErr result (λ end. IsRefusedJob end → TellsAll (S.held shelf.old) (script_of job.now) → out.new ≡ out.old) }
     ensures fetched { FetchesJob S.whole (S.held shelf.old) (script_of job.now)
         (S.fetches shelf.old) (S.fetches shelf.new) (S.faults shelf.old) (S.faults shelf.new) (job_status result) }
+    ensures still { OnOk result (O.faults out.new ≡ O.faults out.old) }
+    ensures wanting { IfErr result (UnlessUnwritten (O.faults out.new ≡ O.faults out.old)) }
     ensures kept { S.held shelf.new ≡ S.held shelf.old }
 {
     match job {
@@ -67,6 +70,8 @@ fn run_early<'a, R: Threads + AllocGlobal + Sync, S: Shelf, O: Sink, G: Gate>(
         (S.faults shelf.old) (S.faults shelf.new) O.written O.pieces O.faults out.old out.new result }
     ensures fetched { FetchesJob S.whole (S.held shelf.old) (script_of job.now)
         (S.fetches shelf.old) (S.fetches shelf.new) (S.faults shelf.old) (S.faults shelf.new) (job_status result) }
+    ensures still { OnOk result (O.faults out.new ≡ O.faults out.old) }
+    ensures wanting { IfErr result (UnlessUnwritten (O.faults out.new ≡ O.faults out.old)) }
     ensures kept { S.held shelf.new ≡ S.held shelf.old }
 {
     match job {
@@ -108,6 +113,8 @@ fn run_whole<'a, R: Threads + AllocGlobal + Sync, S: Shelf, O: Sink, G: Gate>(
     ensures left { IfErr result (λ end. IsStoppedJob end → out.new ≡ out.old) }
     ensures fetched { FetchesJob S.whole (S.held shelf.old) (script_of job.now)
         (S.fetches shelf.old) (S.fetches shelf.new) (S.faults shelf.old) (S.faults shelf.new) (job_status result) }
+    ensures still { OnOk result (O.faults out.new ≡ O.faults out.old) }
+    ensures wanting { IfErr result (UnlessUnwritten (O.faults out.new ≡ O.faults out.old)) }
     ensures kept { S.held shelf.new ≡ S.held shelf.old }
 {
     match text_of(rt, gate, shelf, job) {

@@ -1,6 +1,6 @@
 //! The top call: from words, files and sinks to a status.
 
-ghost use Rattle.std.specs.Prelude.{◌≡◌, OnOk, IfErr};
+ghost use Rattle.std.specs.Prelude.{◌≡◌, ◌≢◌, OnOk, IfErr};
 ghost use Rattle.lid_top_words.specs.Jobs.{job_of};
 ghost use Rattle.lid_top_script.specs.Causes.{end_status, end_line};
 ghost use Rattle.lid_top_refusals.specs.Saying.{Says};
@@ -26,8 +26,8 @@ use std::thread::Threads;
 /// * 6: the certificate that was to be verified is none of the graph.
 ///
 /// On statuses 1, 2, 3, 5 and 6 nothing is written to `out`, but for `clock`, which writes while it
-/// runs. On every status but 0 `err` gets one line; an `err` that fails changes no status. Want of
-/// memory may come at any words.
+/// runs. No write of `out` failed but at status 4. On every status but 0 `err` gets one line; an `err`
+/// that fails changes no status. Want of memory may come at any words.
 pub fn lid_run<R, S, O, E, G>(
     rt: &R,
     words: &[Text],
@@ -42,8 +42,9 @@ where
     O: Sink,
     E: Sink,
     G: Gate,
-    ensures { Run (job_of words.now) (shelf_view S.whole S.held S.fetches S.faults) shelf.old shelf.new
+    ensures ran { Run (job_of words.now) (shelf_view S.whole S.held S.fetches S.faults) shelf.old shelf.new
         (sink_view O.written O.pieces O.faults) out.old out.new (sink_view E.written E.pieces E.faults) err.old err.new result }
+    ensures counted { result ≢ 4 → O.faults out.new ≡ O.faults out.old }
 {
     match read_words(rt.alloc(), words) {
         Ok(Some(job)) => status_of(err, run_job(rt, &job, shelf, out, gate)),

@@ -18,6 +18,7 @@ pub(crate) fn write_text<'a, O: Sink>(
 ) -> Result<(), JobEnd<'a>>
     ensures ok { OnOk result (Appended (O.written out.old) (O.written out.new) text.now) }
     ensures pieces { OnOk result (Came (O.pieces out.old) (O.pieces out.new) (pieces_of text.now)) }
+    ensures still { OnOk result (O.faults out.new ≡ O.faults out.old) }
     ensures stopped { IfErr result (λ end. IsStoppedJob end → (end ≡ JobEnd.Stopped Stop.Memory) × (out.new ≡ out.old)) }
     ensures unwritten { IfErr result (λ end. (end ≡ JobEnd.Unwritten) → Rose (O.faults out.old) (O.faults out.new)
         × AppendedPrefix (O.written out.old) (O.written out.new) text.now × CamePrefix (O.pieces out.old) (O.pieces out.new) (pieces_of text.now)) }
@@ -42,6 +43,7 @@ fn write_pieces<O: Sink>(
     ensures err { OnErr result (AppendedPrefix (O.written out.old) (O.written out.new) text.now) }
     ensures pieces { OnOk result (Came (O.pieces out.old) (O.pieces out.new) (pieces_of text.now)) }
     ensures begun { OnErr result (CamePrefix (O.pieces out.old) (O.pieces out.new) (pieces_of text.now)) }
+    ensures still { OnOk result (O.faults out.new ≡ O.faults out.old) }
     ensures failed { OnErr result (Rose (O.faults out.old) (O.faults out.new)) }
 {
     let Ok(()) = writer.push(out, text) else {

@@ -11,3 +11,4 @@ pub mod Rest
 pub mod Runs
 pub mod Feedings
 pub mod Askings
+pub mod Counts

@@ -51,6 +51,11 @@ IsTellCause writes (Few found) = ⊥
 IsTellCause writes Memory = ⊤
 IsTellCause writes Write = writes
 
+-- but where a write failed, this holds
+abbrev pub UnlessWrite : Type 0 → RunFault → Type 0
+UnlessWrite IsStill Write = ⊤
+UnlessWrite IsStill _ = IsStill
+
 -- the line of a row, where there is one
 abbrev pub last_text : List (List ℕ) → Option (List Bool) → List ℕ
 last_text columns None = []

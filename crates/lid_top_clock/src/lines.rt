@@ -6,7 +6,7 @@ ghost use Rattle.lid_clock.specs.Ran.{lent};
 ghost use Rattle.lid_base_lines.specs.Texts.{line_text};
 ghost use Rattle.lid_texts.specs.Rows.{header_words};
 ghost use Rattle.lid_texts.specs.RowsText.{row_text};
-ghost use Rattle.lid_top_clock.specs.Pushing.{Adds, Breaks, BreaksAtEnd, Closes, IsTellCause, last_text};
+ghost use Rattle.lid_top_clock.specs.Pushing.{Adds, Breaks, BreaksAtEnd, Closes, IsTellCause, UnlessWrite, last_text};
 
 use crate::fault::RunFault;
 use lid_base::{Name, Sink};
@@ -43,6 +43,8 @@ impl Telling {
         ensures none { OnOk result (self.new.line.items ≡ []) }
         ensures err { OnErr result (Breaks O.written O.pieces out.old out.new self.old.writer self.old.line.items) }
         ensures cause { IfErr result (IsTellCause (Rose (O.faults out.old) (O.faults out.new))) }
+        ensures still { OnOk result (O.faults out.new ≡ O.faults out.old) }
+        ensures wanting { IfErr result (UnlessWrite (O.faults out.new ≡ O.faults out.old)) }
         ensures grows { O.faults out.old ≤ O.faults out.new }
     {
         let Ok(()) = self.writer.push(out, self.line.as_slice()) else {
@@ -57,6 +59,8 @@ impl Telling {
         ensures ok { OnOk result (Closes O.written O.pieces out.old out.new self.old.writer self.old.line.items) }
         ensures err { OnErr result (BreaksAtEnd O.written O.pieces out.old out.new self.old.writer self.old.line.items) }
         ensures cause { IfErr result (IsTellCause (Rose (O.faults out.old) (O.faults out.new))) }
+        ensures still { OnOk result (O.faults out.new ≡ O.faults out.old) }
+        ensures wanting { IfErr result (UnlessWrite (O.faults out.new ≡ O.faults out.old)) }
         ensures grows { O.faults out.old ≤ O.faults out.new }
     {
         if let Err(fault) = self.push(out) {
@@ -79,6 +83,8 @@ impl Telling {
         ensures none { OnOk result (self.new.line.items ≡ []) }
         ensures err { OnErr result (Breaks O.written O.pieces out.old out.new self.old.writer (line_text (header_words columns.now))) }
         ensures cause { IfErr result (IsTellCause (Rose (O.faults out.old) (O.faults out.new))) }
+        ensures still { OnOk result (O.faults out.new ≡ O.faults out.old) }
+        ensures wanting { IfErr result (UnlessWrite (O.faults out.new ≡ O.faults out.old)) }
         ensures grows { O.faults out.old ≤ O.faults out.new }
     {
         let Ok(()) = append_header(columns, &mut self.line) else {
@@ -99,6 +105,8 @@ impl Telling {
         ensures none { OnOk result (self.new.line.items ≡ []) }
         ensures err { OnErr result (Breaks O.written O.pieces out.old out.new self.old.writer (last_text columns.now (lent last.entry))) }
         ensures cause { IfErr result (IsTellCause (Rose (O.faults out.old) (O.faults out.new))) }
+        ensures still { OnOk result (O.faults out.new ≡ O.faults out.old) }
+        ensures wanting { IfErr result (UnlessWrite (O.faults out.new ≡ O.faults out.old)) }
         ensures grows { O.faults out.old ≤ O.faults out.new }
     {
         match last {
@@ -119,6 +127,8 @@ impl Telling {
         ensures none { OnOk result (self.new.line.items ≡ []) }
         ensures err { OnErr result (Breaks O.written O.pieces out.old out.new self.old.writer (row_text columns.now row.now)) }
         ensures cause { IfErr result (IsTellCause (Rose (O.faults out.old) (O.faults out.new))) }
+        ensures still { OnOk result (O.faults out.new ≡ O.faults out.old) }
+        ensures wanting { IfErr result (UnlessWrite (O.faults out.new ≡ O.faults out.old)) }
         ensures grows { O.faults out.old ≤ O.faults out.new }
     {
         let Ok(()) = append_row(columns, row, &mut self.line) else {

@@ -4,6 +4,7 @@ ghost use Rattle.std.specs.Prelude.{◌≡◌, ℕ, ◌<◌, ◌≤◌, Bool, Li
 ghost use Rattle.lid_base.specs.declared.outside.Fetch.{Fetch};
 ghost use Rattle.lid_base.specs.Outside.{Rose};
 ghost use Rattle.lid_texts_feed.specs.Fetching.{HasGiven};
+ghost use Rattle.lid_top_clock.specs.Pushing.{UnlessWrite};
 ghost use Rattle.lid_top_clock.specs.Runnings.{ClockRun, run_by, source_columns, HasRun, HasStopped};
 ghost use Rattle.lid_top_clock.specs.Stepping.{IsFed, IsRunOf};
 ghost use Rattle.lid_top_clock.specs.Refetching.{FedBy, RunFetches};
@@ -54,6 +55,8 @@ fn tell_run<S: Shelf, O: Sink, R: Threads + Sync, G: Gate>(
         → RunFetches S.whole r feed.old.name first (S.fetches shelf.new) (S.faults shelf.old) (S.faults shelf.new) result }
     ensures kept { S.held shelf.new ≡ S.held shelf.old }
     ensures grows { (q : List ℕ) → S.faults shelf.old q ≤ S.faults shelf.new q }
+    ensures still { OnOk result (O.faults out.new ≡ O.faults out.old) }
+    ensures wanting { IfErr result (UnlessWrite (O.faults out.new ≡ O.faults out.old)) }
     ensures rises { O.faults out.old ≤ O.faults out.new }
 {
     if let Err(fault) = telling.tell_header(staffed.task.columns, out) {
@@ -86,7 +89,7 @@ fn tell_run<S: Shelf, O: Sink, R: Threads + Sync, G: Gate>(
 /// After a fault a first part of the text was written, by some first of its pieces: of that of all rows that
 /// begin with those that the feed gave. `Feed` hands on the fault of the feed, where `Read` comes only where the
 /// count of its name rose in this call. `Few` tells how many rows the text has, where it ended without a fault
-/// after fewer rows. `Write` comes only where the count of `out` rose in this call. `Memory` may come at any text.
+/// after fewer rows. `Write` comes exactly where the count of `out` rose in this call. `Memory` may come at any text.
 ///
 /// Where the shelf tells its fetches, they are those that the rows need which the run asks for: where it tells the
 /// file too and gives as many bytes as there is room for, exactly those that begin before these rows have ended.
@@ -111,6 +114,8 @@ pub fn run<'a, S: Shelf, O: Sink, R: Threads + AllocGlobal + Sync, G: Gate>(
         first (S.fetches shelf.new) (S.faults shelf.old) (S.faults shelf.new) result }
     ensures kept { S.held shelf.new ≡ S.held shelf.old }
     ensures grows { (q : List ℕ) → S.faults shelf.old q ≤ S.faults shelf.new q }
+    ensures still { OnOk result (O.faults out.new ≡ O.faults out.old) }
+    ensures wanting { IfErr result (UnlessWrite (O.faults out.new ≡ O.faults out.old)) }
     ensures rises { O.faults out.old ≤ O.faults out.new }
 {
     let alloc = workers.rt.alloc();

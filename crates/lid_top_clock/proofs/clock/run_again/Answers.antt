@@ -1,10 +1,12 @@
-use Rattle.std.proofs.Common.{ℕ, List, [], length, Some, sym, ◌∙◌, ap, subst}
+use Rattle.std.proofs.Common.{◌≡◌, ℕ, List, [], length, Some, sym, ◌∙◌, ap, subst}
 use Rattle.lid_check.proofs.Sound.{judged_of}
 use Rattle.lid_strict.proofs.Accepted.{table_of}
 use Rattle.lid_texts_feed.specs.Fetching.{HasGiven}
 use Rattle.lid_top_script.specs.Wrapped.{Wrapping}
 use Rattle.lid_top_clock.specs.Clocking.{IsCounted}
+use Rattle.lid_top_clock.specs.Stops.{UnlessUnwritten}
 use Rattle.lid_top_clock.proofs.Runs.{source_named, runs_whole, runs_in_part, runs_outside, fetched_whole, fetched_in_part, fetched_outside}
+use Rattle.lid_top_clock.proofs.Counts.{end_unless}
 use Rattle.lid_top_clock.proofs.Feedings.{fed_first}
 use Rattle.lid_top_script.proofs.EarlyFetches.{early_wanting}
 use Rattle.lid_top_clock.proofs.clock.run_again.Goals as goal
@@ -69,3 +71,8 @@ returns-clause-fetched g c = λ rows counted.
     fetched_outside a c.args.given.stalls rows c.wrapped.view_is
     (fetched_in_part _ _ _ _ a.vec _ _ _ _ is.of is.system is.fits c.args.given.few has inside.0 inside.1 _ _ _ _ _ _ _ c.in-Err.ensures.err.rows c.in-Err.fault c.run_end.ensures c.outputs-2.ensures.names c.in-Ok.ensures.name c.in-Err.ensures.err.cause
     (c.in-Err.ensures.fetched old begins))
+
+pub returns-clause-wanting : goal.returns-clause-wanting
+returns-clause-wanting g c =
+    subst (UnlessUnwritten (g.O.Sink.faults c.run.new.out ≡ g.O.Sink.faults c.args.out.now)) (sym c.run_end.ensures)
+    (end_unless (g.O.Sink.faults c.run.new.out ≡ g.O.Sink.faults c.args.out.now) _ _ c.in-Err.fault c.in-Err.ensures.wanting)

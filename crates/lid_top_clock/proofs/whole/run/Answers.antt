@@ -4,6 +4,7 @@ use Rattle.lid_base.proofs.Results.{if_err}
 use Rattle.lid_top_clock.specs.Runnings.{run_by}
 use Rattle.lid_top_clock.specs.Refetching.{FedBy, RunFetches}
 use Rattle.lid_top_clock.proofs.Askings.{started}
+use Rattle.lid_top_clock.proofs.Counts.{unless_any}
 use Rattle.lid_top_clock.proofs.Feedings.{some_so, run_stops, run_later}
 use Rattle.lid_top_clock.proofs.Living.{none_given}
 use Rattle.lid_top_clock.proofs.Tellings.{rose_later, cause_later, stopped_later, part_of_none}
@@ -86,3 +87,6 @@ returns-clause-fetched g c = λ first so.
     run_later (g.S.Shelf.faults c.args.shelf.now) c.tell_run.result went.still
     (subst (λ (name : List ℕ). RunFetches whole run name first (g.S.Shelf.fetches c.tell_run.new.shelf) (g.S.Shelf.faults c.start.new.shelf) (g.S.Shelf.faults c.tell_run.new.shelf) c.tell_run.result) c.in-Ok.ensures.name
     (c.tell_run.ensures.fetched run has.given first (record { of = refl; named = refl }) (started run _ _ _ same c.in-Ok.ensures.made has) feeds))
+
+pub returns-in-Err-clause-wanting : goal.returns-in-Err-clause-wanting
+returns-in-Err-clause-wanting g c = unless_any c.in-Err.fault refl

@@ -3,7 +3,7 @@ use Rattle.lid_base.specs.Outside.{Rose}
 use Rattle.lid_base_io.specs.Calls.{CameAs}
 use Rattle.lid_texts_feed.specs.Feeds.{AreFetchesFor}
 use Rattle.lid_texts_feed.proofs.Needing.{as_needed}
-use Rattle.lid_base.proofs.Results.{on_ok}
+use Rattle.lid_base.proofs.Results.{on_ok, if_err}
 use Rattle.lid_texts.specs.RowsText.{rows_text}
 use Rattle.lid_stations.specs.Placed.{Placing}
 use Rattle.lid_clock.specs.Lives.{IsLast, fired_after, sink}
@@ -13,6 +13,7 @@ use Rattle.lid_top_clock.specs.Pushing.{HasPushed, IsTellCause}
 use Rattle.lid_top_clock.specs.Runnings.{source_columns}
 use Rattle.lid_top_clock.specs.Refetching.{FedBy, StopsBy}
 use Rattle.lid_top_clock.proofs.Askings.{asks_for}
+use Rattle.lid_top_clock.proofs.Counts.{unless_any, unless_later}
 use Rattle.lid_top_clock.proofs.Feedings.{some_so, untold_so, still_for_any, still_for_later, run_stops, run_told}
 use Rattle.lid_top_clock.proofs.Tellings.{rose_later, cause_later, cause_of_telling, header_told, header_breaks, last_told, last_breaks, first_end, told_part, goes_on, is_over, over_told, over_breaks, err_both}
 use Rattle.lid_top_clock.proofs.whole.tell_run.Goals as goal
@@ -43,6 +44,7 @@ loop-run-init g c =
       kept = refl;
       grows = λ q. omega arith;
       rises = c.in_default.ensures.grows;
+      unrisen = c.in_default.ensures.still;
     }
 
 pub go-requires-clause-fed : goal.go-requires-clause-fed
@@ -130,6 +132,7 @@ loop-run-preserved g c =
       kept = c.in_default-go.ensures.kept ∙ c.loop-run.invariant.kept;
       grows = λ q. omega (arith, c.loop-run.invariant.grows q, c.in_default-go.ensures.grows q);
       rises = omega (arith, c.loop-run.invariant.rises, c.in_default-tell_last.ensures.grows);
+      unrisen = c.in_default-tell_last.ensures.still ∙ c.loop-run.invariant.unrisen;
     }
 
 pub append_end-requires : goal.append_end-requires
@@ -248,3 +251,15 @@ returns-clause-fetched g c = λ r given first of fed so.
     })
     (some_so whole r c.loop-run.feed name c.loop-run.run.given first now c.loop-run.invariant.name (omega (arith, count, few)) before.0)
     before.1
+
+pub returns-in-Err-go-clause-wanting : goal.returns-in-Err-go-clause-wanting
+returns-in-Err-go-clause-wanting g c = unless_any c.in-Err-go.fault c.loop-run.invariant.unrisen
+
+pub returns-in-Err-tell_last-clause-wanting : goal.returns-in-Err-tell_last-clause-wanting
+returns-in-Err-tell_last-clause-wanting g c = unless_later c.in-Err-tell_last.fault (λ same. same ∙ c.loop-run.invariant.unrisen) c.in-Err-tell_last.ensures.wanting
+
+pub returns-clause-still : goal.returns-clause-still
+returns-clause-still g c = on_ok c.finish.result (λ same. same ∙ c.loop-run.invariant.unrisen) c.finish.ensures.still
+
+pub returns-clause-wanting : goal.returns-clause-wanting
+returns-clause-wanting g c = if_err c.finish.result (λ fault. unless_later fault (λ same. same ∙ c.loop-run.invariant.unrisen)) c.finish.ensures.wanting

@@ -18,6 +18,7 @@ invariant-loop-run g l = record {
   kept : g.S.Shelf.held l.shelf ≡ g.S.Shelf.held l.fn.shelf;
   grows : (q : List ℕ) → g.S.Shelf.faults l.fn.shelf q ≤ g.S.Shelf.faults l.shelf q;
   rises : g.O.Sink.faults l.fn.out ≤ g.O.Sink.faults l.out;
+  unrisen : g.O.Sink.faults l.out ≡ g.O.Sink.faults l.fn.out;
 }
 
 abbrev pub decreases-loop-run : goal.decreases-loop-run

@@ -1,0 +1,28 @@
+-- The count of writes that failed is as it was, but where a write failed.
+use Rattle.std.proofs.Common.{ℕ, List}
+use Rattle.std.specs.Borrow.{Bor}
+use Rattle.lid_top_clock.specs.declared.fault.RunFault.{RunFault}
+use Rattle.lid_top_clock.specs.declared.fault.RunFault.TheVariants.{Feed, Few, Memory, Write}
+use Rattle.lid_top_clock.specs.Pushing.{UnlessWrite}
+use Rattle.lid_top_clock.specs.Stops.{UnlessUnwritten, end_of_run}
+
+-- what holds whatever the fault is
+pub unless_any : {A : Type 0} (fault : RunFault) → A → UnlessWrite A fault
+unless_any (Feed fault) a = a
+unless_any (Few found) a = a
+unless_any Memory a = a
+unless_any Write a = tt
+
+-- and what follows from it
+pub unless_later : {A B : Type 0} (fault : RunFault) → (A → B) → UnlessWrite A fault → UnlessWrite B fault
+unless_later (Feed fault) f a = f a
+unless_later (Few found) f a = f a
+unless_later Memory f a = f a
+unless_later Write f a = tt
+
+-- it holds of the end of a run too
+pub end_unless : (A : Type 0) (vec : Bor (List ℕ)) (count : ℕ) (fault : RunFault) → UnlessWrite A fault → UnlessUnwritten A (end_of_run vec count fault)
+end_unless A vec count (Feed fault) a = a
+end_unless A vec count (Few found) a = a
+end_unless A vec count Memory a = a
+end_unless A vec count Write a = tt
