@@ -21,11 +21,12 @@ pub(crate) fn lay_out_all(
     checked: &Checked,
     placed: &Placed<'_>,
 ) -> Result<All, AllocError>
-    requires { IsSystemOf checked.now placed.now.system }
+    requires of { IsSystemOf checked.now placed.now.system }
+    requires few { length (root_inputs checked.now) + length (root_outputs checked.now) < 32768 }
     ensures { IfOk result (IsCircuitLaidOut checked.now placed.now.system placed.now.placement) }
 {
     let shells = make_shells(alloc, checked, placed)?;
-    lay_out(alloc, placed.system, placed.placement, shells)
+    lay_out(alloc, placed, shells)
 }
 
 /// The cells of what was laid out. Wires that are no ports have names with a prefix with which no name of

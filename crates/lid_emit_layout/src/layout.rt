@@ -1,10 +1,8 @@
 //! All that the cells of a wrapped system are made from.
 
-ghost use Rattle.std.specs.Prelude.{IfOk, length, ◌≡◌, ◌+◌, ℕ, slice_get, Some};
-ghost use Rattle.lid_stations.specs.Placements.{Fits};
-ghost use Rattle.lid_system.specs.Systems.{IsWellFormed};
+ghost use Rattle.std.specs.Prelude.{IfOk, length, ◌≡◌, ◌<◌, ◌+◌, ℕ, slice_get, Some};
 ghost use Rattle.lid_emit_system.specs.Nets.{NetWires, AreNetWires};
-ghost use Rattle.lid_emit_system.specs.Wrapping.{circuit_plan};
+ghost use Rattle.lid_emit_system.specs.Wrapping.{input_count, sink_reads};
 ghost use Rattle.lid_emit_cells.specs.declared.shell.Shell.{Shell};
 ghost use Rattle.lid_emit_cells.specs.Matches.{IsAllOf, AreAllSmall, IsWhole};
 ghost use Rattle.lid_emit_shells.specs.Shells.{nets_of};
@@ -18,8 +16,7 @@ use crate::stations::make_stations;
 use lid_base::Items;
 use lid_emit_cells::{ActorStations, All, Outer, Station};
 use lid_emit_shells::Shells;
-use lid_stations::{Placed, Placement};
-use lid_system::System;
+use lid_stations::Placed;
 use std::alloc::{AllocError, Global};
 
 /// All parts of a wrapped system but its shells.
@@ -37,6 +34,8 @@ fn make_frame(
     stations: Vec<Station>,
 ) -> Result<Frame, AllocError>
     requires stations { (n : NetWires) × AreStationsOf (plan_of placed.now n) stations.items }
+    requires inputs { input_count placed.now.system < 32768 }
+    requires outputs { length (sink_reads placed.now.system) < 32768 }
     ensures { IfOk result (λ frame. (n : NetWires) → AreStationsOf (plan_of placed.now n) stations.items
         → IsFrame (plan_of placed.now n) frame) }
 {
@@ -49,32 +48,16 @@ fn make_frame(
     })
 }
 
-/// The wrapped system of a system, its stations and its shells.
+/// The wrapped system of a system, the stations that fit it, and its shells.
 ///
 /// # Errors
-/// Where there is no memory, or there are more than 2,147,483,648 data inputs or data outputs.
-pub fn lay_out(
-    alloc: Global,
-    system: &System,
-    placement: &Placement,
-    shells: Shells,
-) -> Result<All, AllocError>
-    requires system { IsWellFormed system.now }
-    requires fits { Fits system.now placement.now }
-    requires count { length system.now.nodes ≡ length shells.shells + 2 }
-    requires whole { (i : ℕ) (shell : Shell) → slice_get shells.shells i ≡ Some shell → IsWhole shell }
-    requires nets { AreNetWires system.now placement.now (nets_of shells) }
-    ensures all { IfOk result (IsAllOf (circuit_plan system.now placement.now (nets_of shells))) }
-    ensures sound { IfOk result AreAllSmall }
-{
-    let placed = Placed { system, placement };
-    lay_out_placed(alloc, &placed, shells)
-}
-
-/// The wrapped system of a system, the stations that fit it, and its shells.
-fn lay_out_placed(alloc: Global, placed: &Placed<'_>, shells: Shells) -> Result<All, AllocError>
+/// Where there is no memory.
+pub fn lay_out(alloc: Global, placed: &Placed<'_>, shells: Shells) -> Result<All, AllocError>
     requires count { length placed.now.system.nodes ≡ length shells.shells + 2 }
     requires whole { (i : ℕ) (shell : Shell) → slice_get shells.shells i ≡ Some shell → IsWhole shell }
+    requires nets { AreNetWires placed.now.system placed.now.placement (nets_of shells) }
+    requires inputs { input_count placed.now.system < 32768 }
+    requires outputs { length (sink_reads placed.now.system) < 32768 }
     ensures all { IfOk result (IsAllOf (plan_of placed.now (nets_of shells))) }
     ensures sound { IfOk result AreAllSmall }
 {

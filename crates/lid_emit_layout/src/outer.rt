@@ -18,9 +18,6 @@ use lid_stations::Placed;
 use lid_system::{InBit, Node, System, shells_stand_between_source_and_sink};
 use std::alloc::{AllocError, Global};
 
-/// With at most so many data inputs or outputs numbers stay below 2^32; accepted designs have at most 1,048,576.
-const MOST: usize = 2147483648;
-
 /// How many data inputs there are.
 fn input_count(system: &System) -> usize
     ensures { result ≡ input_count system.now }
@@ -47,13 +44,11 @@ fn sink_reads(system: &System) -> &[InBit]
 
 /// What the data outputs show.
 fn make_shows(alloc: Global, placed: &Placed<'_>) -> Result<Items<Wire>, AllocError>
+    requires { length (sink_reads placed.now.system) < 32768 }
     ensures is { IfOk result (λ shows. map wire_of shows ≡ map (read_wire placed.now.placement) (sink_reads placed.now.system)) }
     ensures few { IfOk result (λ shows. length shows < 2 ^ 32) }
 {
     let reads = sink_reads(placed.system);
-    if reads.len() > MOST {
-        return Err(AllocError);
-    }
     let lasts = last_stations(alloc, placed.placement.relays.as_slice())?;
     let shows = input_wires(alloc, lasts.as_slice(), reads)?;
     Ok(Items::from_vec(shows))
@@ -75,14 +70,13 @@ pub(crate) fn make_outer(
 ) -> Result<Outer, AllocError>
     requires nodes { length placed.now.system.nodes ≤ length actors.now }
     requires small { (v : ℕ) (actor : ActorStations) → slice_get actors.now v ≡ Some actor → IsSmallActor actor }
+    requires inputs { input_count placed.now.system < 32768 }
+    requires outputs { length (sink_reads placed.now.system) < 32768 }
     ensures is { IfOk result (λ outer. (n : NetWires) → AreActorsOf (plan_of placed.now n) actors.now
         → IsOuterOf (plan_of placed.now n) outer) }
     ensures few { IfOk result (λ outer. length outer.shows < 2 ^ 32) }
 {
     let inputs = input_count(placed.system);
-    if inputs > MOST {
-        return Err(AllocError);
-    }
     let shows = make_shows(alloc, placed)?;
     let last = placed.system.nodes.len() - 1;
     Ok(Outer {

@@ -1,9 +1,9 @@
 -- What the test of a guess shows.
-use Rattle.std.proofs.Common.{◌≡◌, ℕ, zero, suc, ◌+◌, ◌*◌, ◌^◌, ◌<◌, ◌≤◌, ◌≢◌, ◌⊎◌, inl, inr, Bool, true, false, List, [], ◌∷◌, ◌++◌, length, get_or, set, Option, Some, None, refl, sym, ◌∙◌, ap, subst, arith}
+use Rattle.std.proofs.Common.{◌≡◌, ℕ, zero, suc, ◌+◌, ◌*◌, ◌^◌, ◌<◌, ◌≤◌, ◌≢◌, ◌⊎◌, inl, inr, Bool, true, false, List, [], ◌∷◌, ◌++◌, length, replicate, get_or, set, Option, Some, None, refl, sym, ◌∙◌, ap, subst, arith}
 use Rattle.std.specs.List.{All}
 use Rattle.std.specs.Option.{MatchOption}
 use Rattle.std.proofs.lemmas.Bool.{cases_eq, cases_lt}
-use Rattle.std.proofs.lemmas.List.{get_or-set_same, get_or-set_other, length-set, get_or_past, get_or_default, length-append}
+use Rattle.std.proofs.lemmas.List.{get_or-set_same, get_or-set_other, length-set, get_or_past, get_or_default, length-append, length-replicate}
 use Rattle.lid_graph.specs.declared.graph.Graph.{Graph}
 use Rattle.lid_graph.specs.Walks.{edge_at, walk_start, walk_tokens, IsWalk}
 use Rattle.lid_graph.proofs.Journeys.{walk_append}
@@ -70,8 +70,8 @@ module _ (g : Graph) where
 
     pub cycle_of : (walk : List ℕ) (tokens long p q : ℕ) → IsSeenRound g walk → 0 < length walk → length walk ≤ g.nodes → tokens ≡ walk_tokens g walk → long ≡ length walk → tokens ≤ 16 * length walk → IsLowest tokens long p q → IsCycle g p q walk
     cycle_of walk tokens long p q round some short tokens_is long_is most lowest = record {
-      closed = record { some = some; closed = leads_walk walk (walk_start g walk) round.0 (walk_start g walk) round.2 };
-      once = leads_once walk (walk_start g walk) round.0 (walk_start g walk) round.1 round.2;
+      closed = record { some = some; closed = leads_walk walk (walk_start g walk) (replicate g.nodes false) (walk_start g walk) round };
+      once = leads_once walk (walk_start g walk) (replicate g.nodes false) (walk_start g walk) (length-replicate g.nodes false) round;
       short = short;
       lowest = subst (λ (n : ℕ). IsLowest n (length walk) p q) tokens_is (subst (λ (n : ℕ). IsLowest tokens n p q) long_is lowest);
       few = (let a = lowest.least_p in omega arith);

@@ -1,9 +1,11 @@
 -- For the tests of a guess: what is looked at, edge by edge and transition by transition.
-use Rattle.std.specs.Prelude.{◌≡◌, ℕ, ◌+◌, ◌*◌, ◌^◌, ◌<◌, ◌≤◌, Bool, true, false, List, [], ◌∷◌, length, slice_index, slice_index_or, slice_set, Option}
+use Rattle.std.specs.Prelude.{◌≡◌, ℕ, ◌+◌, ◌*◌, ◌^◌, ◌<◌, ◌≤◌, Bool, true, false, List, [], ◌∷◌, length, slice_index, slice_index_or, slice_set, replicate, Option}
 use Rattle.std.specs.Option.{MatchOption}
 use Rattle.std.specs.List.{All}
 use Rattle.lid_graph.specs.declared.graph.Graph.{Graph}
-use Rattle.lid_graph.specs.Walks.{edge_at, walk_start}
+use Rattle.lid_graph.specs.Walks.{edge_at, walk_start, walk_tokens}
+use Rattle.lid_rate_guess.specs.declared.guess.Guess.{Guess}
+use Rattle.lid_rate_ratio.specs.CycleRatios.{IsLowest}
 use Rattle.lid_rate_ratio.specs.WalksBack.{predecessor_of}
 use Rattle.lid_rate_ratio.specs.Relaxation.{IsMet}
 
@@ -16,10 +18,9 @@ LeadsOn g at seen (k ∷ ks) end =
     × (slice_index_or seen (edge_at g k).to false ≡ false)
     × LeadsOn g (edge_at g k).to (slice_set seen (edge_at g k).to true) ks end
 
--- the edges lead on from where the first begins back to there
+-- the edges lead on from where the first begins back to there, each to a transition that none before led to
 abbrev pub IsSeenRound : Graph → List ℕ → Type 0
-IsSeenRound g walk =
-    (seen : List Bool) × (length seen ≡ g.nodes) × LeadsOn g (walk_start g walk) seen walk (walk_start g walk)
+IsSeenRound g walk = LeadsOn g (walk_start g walk) (replicate g.nodes false) walk (walk_start g walk)
 
 -- an edge to v, from a transition of lesser rank, that asks for all of v's lag
 pub record IsTight (g : Graph) (p q : ℕ) (lags ranks : List ℕ) (v k : ℕ) : Type 0 where
@@ -40,3 +41,10 @@ pub record AreShown (g : Graph) (p q : ℕ) (lags ranks : List ℕ) (tight : Lis
   pub small : All (λ n. n ≤ 2 ^ 60) lags
   pub met : (k : ℕ) → k < length g.edges → IsMet g p q lags lags k
   pub shown : (v : ℕ) → v < g.nodes → IsShown g p q lags ranks tight v
+
+-- a guess of a closed walk and of the least lags at its ratio, as its edges and ranks show
+pub record IsRightGuess (g : Graph) (guess : Guess) : Type 0 where
+  pub some : 0 < length guess.walk
+  pub short : length guess.walk ≤ g.nodes
+  pub round : IsSeenRound g guess.walk
+  pub shown : (p q : ℕ) → IsLowest (walk_tokens g guess.walk) (length guess.walk) p q → AreShown g p q guess.lags guess.ranks guess.tight

@@ -1,38 +1,27 @@
 //! The test of a guess: whether its walk is closed and its lags are the least, so that the ratio of the
 //! walk is that of the graph. It looks at each edge and each transition once.
 
-ghost use Rattle.std.specs.Prelude.{◌≡◌, ℕ, ◌+◌, ◌*◌, ◌<◌, ◌≤◌, ◌^◌, ◌↔◌, length, slice_index, IsTrue, IfOk, IfSome};
+ghost use Rattle.std.specs.Prelude.{◌≡◌, ℕ, ◌+◌, ◌*◌, ◌<◌, ◌≤◌, ◌^◌, ◌↔◌, length, slice_index, IsNone, IsTrue, IfOk, IfSome};
 ghost use Rattle.std.specs.List.{All};
-ghost use Rattle.lid_graph.specs.Walks.{edge_at, walk_start};
+ghost use Rattle.lid_graph.specs.Walks.{edge_at};
 ghost use Rattle.lid_rate_ratio.specs.Relaxation.{AreAtMost, IsMet};
 ghost use Rattle.lid_rate_ratio.specs.Components.{IsSmallGraph, IsCycle, HasRate};
-ghost use Rattle.lid_rate_ratio.specs.Tests.{LeadsOn, IsSeenRound, IsTight, IsShown, AreShown};
+ghost use Rattle.lid_rate_ratio.specs.Tests.{LeadsOn, IsSeenRound, IsTight, IsShown, AreShown, IsRightGuess};
 
 use crate::lowest_terms::{Ratio, lowest, tokens_on};
 use crate::relaxation::edge;
-use lid_graph::{Edge, Graph};
+use lid_graph::{Edge, Graph, walk_start};
 use lid_rate_guess::Guess;
 use std::alloc::{AllocError, Global};
 
 /// The largest lag that is taken.
 pub(crate) const MOST_LAG: u64 = 1 << 60;
 
-/// Where the first edge of a walk begins, or 0 where there is no edge of this number.
-fn walk_start(graph: &Graph, walk: &[u32]) -> u32
-    ensures { result ≡ walk_start graph.now walk.now }
-{
-    let edges = graph.edges.as_slice();
-    match walk {
-        [first, ..] if (*first as usize) < edges.len() => edges[*first as usize].from,
-        _ => 0,
-    }
-}
-
 /// Whether the edges lead from a transition to itself, each to a transition that was not seen before.
 fn is_round(graph: &Graph, walk: &[u32], seen: &mut [bool], start: u32) -> bool
     requires seen { length seen.old ≡ graph.now.nodes }
     requires ends { (k : ℕ) → k < length graph.now.edges → (edge_at graph.now k).to < graph.now.nodes }
-    ensures { IsTrue result → LeadsOn graph.now start seen.old walk.now start }
+    ensures { IsTrue result ↔ LeadsOn graph.now start seen.old walk.now start }
 {
     let mut at = start;
     for k in walk {
@@ -52,7 +41,7 @@ fn is_round(graph: &Graph, walk: &[u32], seen: &mut [bool], start: u32) -> bool
 /// Whether edges make a closed walk that meets no transition twice.
 fn is_cycle(alloc: Global, graph: &Graph, walk: &[u32]) -> Result<bool, AllocError>
     requires { IsSmallGraph graph.now }
-    ensures { IfOk result (λ closed. IsTrue closed → IsSeenRound graph.now walk.now) }
+    ensures { IfOk result (λ closed. IsTrue closed ↔ IsSeenRound graph.now walk.now) }
 {
     let mut seen = Vec::from_elem(alloc, false, graph.nodes as usize)?;
     let start = walk_start(graph, walk);
@@ -66,7 +55,8 @@ pub(crate) fn ratio_of(
     walk: &[u32],
 ) -> Result<Option<Ratio>, AllocError>
     requires { IsSmallGraph graph.now }
-    ensures { IfOk result (λ found. IfSome found (λ ratio. IsCycle graph.now ratio.p ratio.q walk.now)) }
+    ensures some { IfOk result (λ found. IfSome found (λ ratio. IsCycle graph.now ratio.p ratio.q walk.now)) }
+    ensures none { IfOk result (λ found. IsNone found → 0 < length walk.now → length walk.now ≤ graph.now.nodes → IsSeenRound graph.now walk.now → ⊥) }
 {
     if walk.len() == 0 || walk.len() > graph.nodes as usize {
         return Ok(None);
@@ -194,13 +184,14 @@ fn are_shown(graph: &Graph, guess: &Guess, ratio: Ratio) -> bool
     are_all_shown(graph, guess, ratio)
 }
 
-/// The ratio of a graph, where a guess shows it.
+/// The ratio of a graph, where a guess shows it. None only where it does not.
 ///
 /// # Errors
 /// Where there is no memory.
 pub fn judge(alloc: Global, graph: &Graph, guess: &Guess) -> Result<Option<Ratio>, AllocError>
     requires { IsSmallGraph graph.now }
-    ensures { IfOk result (λ found. IfSome found (λ ratio. HasRate graph.now ratio.p ratio.q guess.now.walk guess.now.lags)) }
+    ensures some { IfOk result (λ found. IfSome found (λ ratio. HasRate graph.now ratio.p ratio.q guess.now.walk guess.now.lags)) }
+    ensures none { IfOk result (λ found. IsNone found → IsRightGuess graph.now guess.now → ⊥) }
 {
     let Some(ratio) = ratio_of(alloc, graph, guess.walk.as_slice())? else {
         return Ok(None);

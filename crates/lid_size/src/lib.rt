@@ -9,4 +9,4 @@ mod testing;
 mod ways;
 
 pub use laws::{greater_capacities_reach, no_place_is_spare};
-pub use sizing::{SizeEnd, size};
+pub use sizing::{SizeEnd, size, size_by_guess};

@@ -1,13 +1,13 @@
 //! Sizing of the stations of a placement.
 
-ghost use Rattle.std.specs.Prelude.{◌≡◌, ℕ, length, replicate, IfOk};
+ghost use Rattle.std.specs.Prelude.{◌≡◌, ℕ, length, replicate, IfOk, IfSome};
 ghost use Rattle.lid_graph.specs.declared.graph.Graph.{Graph};
 ghost use Rattle.lid_stations.specs.Placed.{links_in};
 ghost use Rattle.lid_stations.specs.Placements.{links_of, Fits, station_count};
 ghost use Rattle.lid_system.specs.Systems.{IsWellFormed};
 ghost use Rattle.lid_size.specs.Comparing.{AreCompared, IsFirstLow, AreWants, ReachesWith};
 ghost use Rattle.lid_size.specs.Sizing.{sized, greatest};
-ghost use Rattle.lid_size.specs.Sizes.{Sizes, FitsIfReached, short_end};
+ghost use Rattle.lid_size.specs.Sizes.{IsReachedPlacement, Sizes, FitsIfReached, short_end};
 
 use crate::choosing::{choose, greatest, placement_of, tested};
 use crate::comparing::{find_low, want_of};
@@ -108,6 +108,21 @@ fn size_from(alloc: Global, widest: &Placed<'_>, graph: &Graph) -> Result<SizeEn
     }
 }
 
+/// The placement of a guess from the marking with 16 everywhere.
+fn guess_from(
+    alloc: Global,
+    widest: &Placed<'_>,
+    graph: &Graph,
+) -> Result<Option<Placement>, AllocError>
+    requires widest { widest.now.placement.caps ≡ greatest widest.now.placement.relays }
+    requires graph { graph.now ≡ sized (links_in widest.now) widest.now.placement.relays widest.now.placement.caps }
+    ensures { IfOk result (λ found. IfSome found (IsReachedPlacement (links_in widest.now) widest.now.placement.relays)) }
+{
+    let wants = forward_ratios(alloc, graph, widest.placement.caps.len() as u32)?;
+    let cert = find(alloc, graph)?;
+    tested(alloc, widest, graph, &wants, &cert)
+}
+
 /// The placement with 16 everywhere.
 fn widest(alloc: Global, placement: &Placement) -> Result<Placement, AllocError>
     requires { length placement.now.caps ≡ station_count placement.now.relays }
@@ -139,4 +154,27 @@ pub fn size(alloc: Global, system: &System, placement: &Placement) -> Result<Siz
         placement: &widest,
     };
     size_from(alloc, &placed, &graph)
+}
+
+/// What a guess of the first capacities that reach answers, where its test succeeds. Where it does not, `size`
+/// searches, which takes longer; so tests call this.
+///
+/// # Errors
+/// Where there is no memory.
+pub fn size_by_guess(
+    alloc: Global,
+    system: &System,
+    placement: &Placement,
+) -> Result<Option<Placement>, AllocError>
+    requires system { IsWellFormed system.now }
+    requires fits { Fits system.now placement.now }
+    ensures { IfOk result (λ found. IfSome found (IsReachedPlacement (links_of system.now) placement.now.relays)) }
+{
+    let widest = widest(alloc, placement)?;
+    let graph = marking(alloc, system, &widest)?;
+    let placed = Placed {
+        system,
+        placement: &widest,
+    };
+    guess_from(alloc, &placed, &graph)
 }

@@ -7,7 +7,7 @@ ghost use Rattle.lid_graph.specs.Rateable.{IsRateable};
 use lid_graph::Graph;
 use lid_rate::find;
 use lid_rate_ratio::Ratio;
-use lid_size::{SizeEnd, size};
+use lid_size::{SizeEnd, size, size_by_guess};
 use lid_size_guess::{NextSize, SizeGuess, begin_sizes, propose_forwards, propose_next};
 use lid_stations::{Placement, marking};
 use lid_tests_fixtures::{DIAMOND, MADE, RING, placed_of};
@@ -136,6 +136,18 @@ fn is_reached(alloc: Global, case: Reached) -> bool {
     let (netlist, stations, relays, caps) = case;
     match sized(alloc, netlist, stations) {
         Some(SizeEnd::Reached(placement)) => is_placed(&placement, relays, caps),
+        _ => false,
+    }
+}
+
+/// Whether the guess alone answers these relay stations and capacities.
+fn is_reached_by_guess(alloc: Global, case: Reached) -> bool {
+    let (netlist, stations, relays, caps) = case;
+    let Some(placed) = placed_of(alloc, netlist, stations) else {
+        return false;
+    };
+    match size_by_guess(alloc, &placed.system, &placed.placement) {
+        Ok(Some(placement)) => is_placed(&placement, relays, caps),
         _ => false,
     }
 }
@@ -286,6 +298,16 @@ fn the_first_capacities_that_reach(rt: HostRuntime) {
     for case in &REACHED {
         assert!(rt; is_reached(rt.alloc(), *case));
     }
+}
+
+#[test]
+fn the_test_of_the_guess_accepts_them(rt: HostRuntime) {
+    for case in &REACHED {
+        assert!(rt; is_reached_by_guess(rt.alloc(), *case));
+    }
+    let (netlist, stations, _, _, caps) = WIDE[2];
+    let case: Reached = (netlist, stations, &[0, 2, 0, 0, 1, 1], caps);
+    assert!(rt; is_reached_by_guess(rt.alloc(), case));
 }
 
 #[test]

@@ -142,8 +142,8 @@ impl Running {
         requires ascend { Ascend (listed stalls) }
         requires feeds { (columns : List (List ℕ)) × HasGiven (S.held shelf.old feed.old.name)
             (source_columns task.now.placed.now.system) (length columns) feed.old [] }
-        ensures ok { (r : ClockRun) → r.system ≡ task.now.placed.now.system → r.placement ≡ task.now.placed.now.placement → r.rows ≡ task.now.rows → r.trace ≡ task.now.trace
-            → r.stalls ≡ stalls → r.held ≡ S.held shelf.old feed.old.name → FeedGives r feed.old []
+        ensures ok { (r : ClockRun) → r.system ≡ task.now.placed.now.system → r.placement ≡ task.now.placed.now.placement
+            → r.rows ≡ task.now.rows → r.trace ≡ task.now.trace → r.stalls ≡ stalls → r.held ≡ S.held shelf.old feed.old.name → FeedGives r feed.old []
             → IfOk result (λ run. HasStarted r run feed.new) }
         ensures made { IfOk result (λ run. run.made ≡ 0) }
         ensures err { (r : ClockRun) → r.system ≡ task.now.placed.now.system → r.rows ≡ task.now.rows → r.held ≡ S.held shelf.old feed.old.name

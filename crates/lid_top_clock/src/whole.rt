@@ -50,7 +50,8 @@ fn tell_run<S: Shelf, O: Sink, R: Threads + Sync, G: Gate>(
         → IsFed r (S.held shelf.old feed.old.name) run.old feed.old given
         → IfErr result (HasStopped r O.written O.pieces out.old out.new
         (Rose (S.faults shelf.old feed.old.name) (S.faults shelf.new feed.old.name)) (Rose (O.faults out.old) (O.faults out.new))) }
-    ensures fetched { (r : ClockRun) (given : List (List Bool)) (first : Option (List Fetch)) → IsRunOf r staffed.now.task.now.placed.now.system staffed.now.task.now.columns.now
+    ensures fetched { (r : ClockRun) (given : List (List Bool)) (first : Option (List Fetch))
+        → IsRunOf r staffed.now.task.now.placed.now.system staffed.now.task.now.columns.now
         → IsFed r (S.held shelf.old feed.old.name) run.old feed.old given → FedBy S.whole r run.old.given first (S.fetches shelf.old) feed.old
         → RunFetches S.whole r feed.old.name first (S.fetches shelf.new) (S.faults shelf.old) (S.faults shelf.new) result }
     ensures kept { S.held shelf.new ≡ S.held shelf.old }

@@ -4,7 +4,7 @@ use crate::tests::base::is_fetched;
 use lid_base::{DirShelf, Shelf, Sink, StdSink};
 use std::alloc::Global;
 use std::io;
-use std::io::Write;
+use std::io::{PipeReader, Write};
 use std::os::fd::AsRawFd;
 use std::test::Fail;
 
@@ -88,5 +88,34 @@ fn a_pipe_is_read_once(rt: HostRuntime) -> Result<(), Fail> {
     let name = format!(in rt.alloc(); "/dev/fd/{}", reader.as_raw_fd())?;
     let mut shelf = DirShelf::new(&rt);
     assert!(rt; is_pipe_fetched(&mut shelf, name.as_str()));
+    Ok(())
+}
+
+/// A pipe that holds some bytes, and no more will come.
+fn full_pipe(rt: &HostRuntime, bytes: &[u8]) -> io::Result<PipeReader> {
+    let (reader, mut writer) = io::pipe(rt)?;
+    writer.write_all(bytes)?;
+    drop(writer);
+    Ok(reader)
+}
+
+/// Whether each of two files gives its own bytes, fetched in turn.
+fn are_apart<S: Shelf>(shelf: &mut S, first: &str, second: &str) -> bool {
+    let mut into = [0u8; 3];
+    is_fetched(shelf, first, 0, &mut into, Some(b"hel"))
+        && is_fetched(shelf, second, 0, &mut into, Some(b"wor"))
+        && is_fetched(shelf, second, 3, &mut into, Some(b"ld"))
+        && is_fetched(shelf, first, 0, &mut into, Some(b"lo"))
+}
+
+#[test]
+fn names_of_one_length_are_two_files(rt: HostRuntime) -> Result<(), Fail> {
+    let first = full_pipe(&rt, b"hello")?;
+    let second = full_pipe(&rt, b"world")?;
+    let first_name = format!(in rt.alloc(); "/dev/fd/{:02}", first.as_raw_fd())?;
+    let second_name = format!(in rt.alloc(); "/dev/fd/{:02}", second.as_raw_fd())?;
+    assert!(rt; first_name.len() == second_name.len());
+    let mut shelf = DirShelf::new(&rt);
+    assert!(rt; are_apart(&mut shelf, first_name.as_str(), second_name.as_str()));
     Ok(())
 }

@@ -6,6 +6,9 @@ use Rattle.lid_emit.specs.Steps.{design_with}
 use Rattle.lid_emit.proofs.Emitting.{few_ports, emitted_so}
 use Rattle.lid_emit.proofs.wrapping.wrap.Goals as goal
 
+pub lay_out_all-requires-clause-few : goal.lay_out_all-requires-clause-few
+lay_out_all-requires-clause-few c = let few = few_ports c.args.checked.now (links_in c.args.placed.now) c.args.placed.now.placement c.requires.small in omega (arith, few)
+
 pub name_cells-requires-clause-few : goal.name_cells-requires-clause-few
 name_cells-requires-clause-few c = let few = few_ports c.args.checked.now (links_in c.args.placed.now) c.args.placed.now.placement c.requires.small in omega (arith, few)
 

@@ -1,5 +1,5 @@
 -- What is shown is what the sink reads.
-use Rattle.std.proofs.Common.{◌≡◌, ℕ, List, length, map, sym, subst, ap, ◌∙◌, arith}
+use Rattle.std.proofs.Common.{◌≡◌, ◌<◌, ℕ, List, length, map, sym, subst, ap, ◌∙◌, arith}
 use Rattle.std.specs.List.{AllByRecursion}
 use Rattle.std.proofs.lemmas.List.{length-map}
 use Rattle.lid_system.specs.declared.InBit.{InBit}
@@ -29,4 +29,5 @@ returns-clause-is c =
 pub returns-clause-few : goal.returns-clause-few
 returns-clause-few c =
     let long = ap length (c.from_vec.ensures ∙ c.in_ok-shows.ensures) in
-    omega (arith, long, length-map c.sink_reads-reads.result.now (wire_by c.as_slice-2.result.now), c.if-reads-gt-MOST.false)
+    let few : length c.sink_reads-reads.result.now < 32768 = subst (λ (reads : List InBit). length reads < 32768) (sym c.sink_reads-reads.ensures) (subst (λ (v : Placing). length (sink_reads v.system) < 32768) (sym c.placed.view_is) c.requires) in
+    omega (arith, long, length-map c.sink_reads-reads.result.now (wire_by c.as_slice-2.result.now), few)

@@ -3,7 +3,7 @@ use Rattle.std.proofs.Common.{subst}
 use Rattle.lid_stations.specs.Placed.{Placing, IsPlaced}
 use Rattle.lid_emit_layout.proofs.Framing.{all_is, all_sound}
 use Rattle.lid_emit_shells.specs.Shells.{nets_of}
-use Rattle.lid_emit_layout.proofs.layout.lay_out_placed.Goals as goal
+use Rattle.lid_emit_layout.proofs.layout.lay_out.Goals as goal
 
 pub returns-clause-all : goal.returns-clause-all
 returns-clause-all c =
