@@ -7,10 +7,10 @@ use Rattle.lid_texts_packed.proofs.rows.PackedRows.read.Goals as goal
 pub returns : goal.returns
 returns c =
     let p = c.self.inside in
-    let count = rows_count p.bits p.width p.count in
+    let count = rows_count p.words.items p.width p.count in
     let same = ap (λ (v : WideRows). length v.rows) c.self.view_is in
     let row = get_or c.args.self.now.rows c.args.row [] in
     let width : c.args.self.now.width ≡ p.width = sym (ap (λ (v : WideRows). v.width) c.self.view_is) in
-    let wide : length row ≡ p.width = ap (λ (v : WideRows). length (get_or v.rows c.args.row [])) (sym c.self.view_is) ∙ row_wide p.bits p.width p.count c.args.row (omega (arith, c.requires.row)) in
+    let wide : length row ≡ p.width = ap (λ (v : WideRows). length (get_or v.rows c.args.row [])) (sym c.self.view_is) ∙ row_wide p.words.items p.width p.count c.args.row (omega (arith, c.requires.row)) in
     let many : length c.loop-place.into ≡ p.width = c.loop-place.invariant.0 ∙ c.requires.wide ∙ width in
     ext_get_or false c.loop-place.into row (many ∙ sym wide) (λ j less. c.loop-place.invariant.1 j (omega (arith, less, many, c.loop-place-test.false)))
