@@ -1,7 +1,8 @@
 -- Rows of one width in words: where they lie, and one row more.
-use Rattle.std.proofs.Common.{◌≡◌, ℕ, ◌+◌, ◌*◌, ◌^◌, ◌/◌, ◌%◌, ◌<◌, ◌≤◌, ◌==◌, Bool, false, List, [], ◌∷◌, ◌++◌, length, get_or, bit_and, sym, ◌∙◌, ap, arith}
+use Rattle.std.proofs.Common.{◌≡◌, ℕ, ◌+◌, ◌*◌, ◌^◌, ◌/◌, ◌%◌, ◌<◌, ◌≤◌, ◌==◌, ◌⊎◌, Bool, false, List, [], ◌∷◌, ◌++◌, length, get_or, set, bit_and, inl, inr, sym, ◌∙◌, ap, arith}
 use Rattle.std.proofs.Math.Nat.{mul-le-mul_right}
-use Rattle.std.proofs.lemmas.List.{get_or_append_left, ext_get_or}
+use Rattle.std.proofs.lemmas.Bool.{cases_eq}
+use Rattle.std.proofs.lemmas.List.{get_or_append_left, get_or-set_same, get_or-set_other, ext_get_or}
 use Rattle.std.proofs.Math.ListN.{get_or-eq_default}
 use Rattle.std.specs.Int.{bit_at}
 use Rattle.std.proofs.lemmas.Nat.Bits.{shr_and_one}
@@ -11,16 +12,17 @@ use Rattle.lid_texts_packed.specs.Rows.{row_in, rows_in}
 use Rattle.lid_texts_packed.proofs.Words.{each_there, appended_bit}
 
 -- the words of a row end where those of the next begin
-pub word_within : (row count place width : ℕ) → row < count → place < width → row * words_for width + place / 64 < count * words_for width
-word_within row count place width less inside =
-    let span = words_for width in
+pub span_within : (row count k span : ℕ) → row < count → k < span → row * span + k < count * span
+span_within row count k span less inside =
     let next : (row + 1) * span ≤ count * span = mul-le-mul_right span (omega (arith, less)) in
     let apart : (row + 1) * span ≡ row * span + span = next_row row span in
-    let low : place / 64 < span = omega (arith, inside) in
-    omega (arith, next, apart, low)
+    omega (arith, next, apart, inside)
   where
     next_row : (a b : ℕ) → (a + 1) * b ≡ a * b + b
     next_row a b = omega (arith)
+
+pub word_within : (row count place width : ℕ) → row < count → place < width → row * words_for width + place / 64 < count * words_for width
+word_within row count place width less inside = span_within row count (place / 64) (words_for width) less (omega (arith, inside))
 
 module _ (words : List ℕ) (width count : ℕ) where
   -- so many rows
@@ -70,3 +72,11 @@ module _ (words : List ℕ) (width count : ℕ) where
               each_there (has_bit more (count * words_for width)) width j false inside
               ∙ ap (λ (start : ℕ). has_bit more start j) (sym ends)
               ∙ appended_bit words row j (omega (arith, inside, wide))
+
+-- bits that are written one after the other
+pub written : (into row : List Bool) (place : ℕ) (bit : Bool) → place < length into → bit ≡ get_or row place false → ((j : ℕ) → j < place → get_or into j false ≡ get_or row j false) → (j : ℕ) → j < place + 1 → get_or (set into place bit) j false ≡ get_or row j false
+written into row place bit inside is before j less = by (cases_eq j place)
+  where
+    by : (j ≡ place) ⊎ (j ≡ place → ⊥) → get_or (set into place bit) j false ≡ get_or row j false
+    by (inl same) = ap (λ (n : ℕ). get_or (set into place bit) n false) same ∙ get_or-set_same into place bit false inside ∙ is ∙ ap (λ (n : ℕ). get_or row n false) (sym same)
+    by (inr other) = get_or-set_other into place j bit false other ∙ before j (omega (arith, less, other))

@@ -1,7 +1,6 @@
 //! Rows of bits of one width.
 
-ghost use Rattle.std.specs.Prelude.{◌≡◌, ◌<◌, ◌++◌, ◌∷◌, [], false, length, map, slice_index_or, IfOk, OnOk, OnErr};
-ghost use Rattle.lid_texts.specs.RowsText.{bit_char};
+ghost use Rattle.std.specs.Prelude.{◌≡◌, ◌<◌, ◌++◌, ◌∷◌, [], false, length, slice_index_or, IfOk, OnOk, OnErr};
 
 use crate::bits::append_row;
 use lid_base::Items;
@@ -98,19 +97,11 @@ impl PackedRows {
         requires wide { length into.old ≡ self.now.width }
         ensures { into.new ≡ slice_index_or self.now.rows row [] }
     {
-        for place in 0..self.width {
-            into[place] = self.bit(row, place);
-        }
-    }
-
-    /// Writes a row into characters.
-    pub(crate) fn print(&self, row: usize, into: &mut [u8])
-        requires row { row < length self.now.rows }
-        requires wide { length into.old ≡ self.now.width }
-        ensures { into.new ≡ map bit_char (slice_index_or self.now.rows row []) }
-    {
-        for place in 0..self.width {
-            into[place] = b'0' + u8::from(self.bit(row, place));
+        for k in 0..self.span {
+            let word = self.words[row * self.span + k];
+            for place in 64 * k..64 * k + 64.min(self.width - 64 * k) {
+                into[place] = (word >> (place % 64)) & 1 == 1;
+            }
         }
     }
 
