@@ -1,24 +1,25 @@
 -- Bits in words of 64.
-use Rattle.std.specs.Prelude.{◌≡◌, ℕ, ◌+◌, ◌*◌, ◌/◌, ◌%◌, ◌<◌, ◌≤◌, ◌==◌, Bool, false, List, length, slice_index_or}
+use Rattle.std.specs.Prelude.{ℕ, ◌+◌, ◌*◌, ◌/◌, ◌%◌, ◌==◌, Bool, if◌then◌else◌, List, [], ◌∷◌, length, take, drop, slice_index_or}
 use Rattle.std.specs.Int.{bit_at}
 use Rattle.lid_base.specs.Each.{from_each}
 
--- the bit of this number
-abbrev pub has_bit : List ℕ → ℕ → Bool
-has_bit words i = bit_at (slice_index_or words (i / 64) 0) (i % 64) == 1
+-- the number whose lowest bits are these, the first the lowest
+abbrev pub value_of_bits : List Bool → ℕ
+value_of_bits [] = 0
+value_of_bits (bit ∷ bits) = (if bit then 1 else 0) + 2 * value_of_bits bits
 
--- the first of them
-abbrev pub bits_in : List ℕ → ℕ → List Bool
-bits_in words count = from_each (has_bit words) 0 count
+-- how many words hold so many bits
+abbrev pub words_for : ℕ → ℕ
+words_for bits = (bits + 63) / 64
 
--- so many bits need these words, and those past the last are 0
-pub record HoldsBits (words : List ℕ) (count : ℕ) : Type 0 where
-  pub within : count ≤ 64 * length words
-  pub few : 64 * length words ≤ count + 63
-  pub clear : (i : ℕ) → count ≤ i → has_bit words i ≡ false
+-- the word of this number of those that hold a row
+abbrev pub word_in : List Bool → ℕ → ℕ
+word_in row k = value_of_bits (take 64 (drop (64 * k) row))
 
--- one bit more stands after so many
-pub record AppendsBit (old : List ℕ) (count : ℕ) (bit : Bool) (new : List ℕ) : Type 0 where
-  pub holds : HoldsBits new (count + 1)
-  pub kept : (i : ℕ) → i < count → has_bit new i ≡ has_bit old i
-  pub last : has_bit new count ≡ bit
+-- all of them
+abbrev pub words_of : List Bool → List ℕ
+words_of row = from_each (word_in row) 0 (words_for (length row))
+
+-- the bit at this place of those that begin with the word of number `start`
+abbrev pub has_bit : List ℕ → ℕ → ℕ → Bool
+has_bit words start place = bit_at (slice_index_or words (start + place / 64) 0) (place % 64) == 1

@@ -1,10 +1,9 @@
-//! Rows of bits that are held packed: a bit for each bit.
+//! Rows of bits that are held packed: 64 bits in a word.
 #![tactic(auto)]
 
 mod bits;
 mod rows;
 mod writer;
 
-pub use bits::BitList;
 pub use rows::PackedRows;
 pub use writer::packed_text;

@@ -1,40 +1,32 @@
 //! Rows of bits of one width.
 
-ghost use Rattle.std.specs.Prelude.{◌≡◌, ◌<◌, ◌≤◌, ◌++◌, ◌∷◌, [], false, length, slice_index_or, IfOk, OnOk};
+ghost use Rattle.std.specs.Prelude.{◌≡◌, ◌<◌, ◌++◌, ◌∷◌, [], false, length, slice_index_or, IfOk, OnOk, OnErr};
 
-use crate::bits::BitList;
+use crate::bits::append_row;
 use lid_base::Items;
 use std::alloc::{AllocError, Global};
 use std::marker::Model;
 
-/// Rows of bits of one width, one after the other without a gap. A contract sees the width and the rows.
+/// Rows of bits of one width, each from a word of its own on. A contract sees the width and the rows.
 #[derive(Drop)]
 pub struct PackedRows {
-    bits: BitList,
+    words: Vec<u64>,
     width: usize,
+    /// How many words a row takes.
+    span: usize,
     count: usize,
 }
 
 impl Model for PackedRows {
-    ghost use Rattle.std.specs.Prelude.{◌*◌, ◌≤◌, length};
+    ghost use Rattle.std.specs.Prelude.{◌≡◌, ◌*◌, length};
+    ghost use Rattle.lid_texts_packed.specs.Bits.{words_for};
     ghost use Rattle.lid_texts_packed.specs.Rows.{WideRows, rows_in};
 
     ghost Value = { WideRows };
 
-    ghost view = { λ s. record { width = s.width; rows = rows_in s.bits s.width s.count } };
+    ghost view = { λ s. record { width = s.width; rows = rows_in s.words.items s.width s.count } };
 
-    ghost invariant = { λ s. s.count * s.width ≤ length s.bits };
-}
-
-/// Appends bits.
-fn push_all(bits: &mut BitList, row: &[bool]) -> Result<(), AllocError>
-    ensures ok { OnOk result (bits.new ≡ bits.old ++ row.now) }
-    ensures more { length bits.old ≤ length bits.new }
-{
-    for bit in row {
-        bits.push(*bit)?;
-    }
-    Ok(())
+    ghost invariant = { λ s. (s.span ≡ words_for s.width) × (length s.words.items ≡ s.count * s.span) };
 }
 
 impl PackedRows {
@@ -43,8 +35,9 @@ impl PackedRows {
         ensures { result ≡ record { width = width; rows = [] } }
     {
         PackedRows {
-            bits: BitList::new(alloc),
+            words: Vec::new(alloc),
             width,
+            span: width.div_ceil(64),
             count: 0,
         }
     }
@@ -66,21 +59,28 @@ impl PackedRows {
     /// Appends a row.
     ///
     /// # Errors
-    /// Want of memory. Then every later call answers it too.
+    /// Want of memory. The rows are then as they were.
     pub fn push(&mut self, row: &[bool]) -> Result<(), AllocError>
         requires { length row.now ≡ self.old.width }
         ensures ok { OnOk result (self.new ≡ record { width = self.old.width; rows = self.old.rows ++ row.now ∷ [] }) }
+        ensures kept { OnErr result (self.new ≡ self.old) }
         ensures width { self.new.width ≡ self.old.width }
     {
         let Some(count) = self.count.checked_add(1) else {
             return Err(AllocError);
         };
-        if self.bits.len() != self.count as u64 * self.width as u64 {
-            return Err(AllocError);
-        }
-        push_all(&mut self.bits, row)?;
+        append_row(&mut self.words, row)?;
         self.count = count;
         Ok(())
+    }
+
+    /// The bit at a place of a row.
+    fn bit(&self, row: usize, place: usize) -> bool
+        requires row { row < length self.now.rows }
+        requires place { place < self.now.width }
+        ensures { result ≡ slice_index_or (slice_index_or self.now.rows row []) place false }
+    {
+        (self.words[row * self.span + place / 64] >> (place % 64)) & 1 == 1
     }
 
     /// A bit of a row, or 0 where the row is not so wide.
@@ -88,11 +88,7 @@ impl PackedRows {
         requires { row < length self.now.rows }
         ensures { result ≡ slice_index_or (slice_index_or self.now.rows row []) place false }
     {
-        let _all = self.bits.len();
-        if place >= self.width {
-            return false;
-        }
-        self.bits.at(row as u64 * self.width as u64 + place as u64)
+        place < self.width && self.bit(row, place)
     }
 
     /// Writes a row into bits.
@@ -101,8 +97,11 @@ impl PackedRows {
         requires wide { length into.old ≡ self.now.width }
         ensures { into.new ≡ slice_index_or self.now.rows row [] }
     {
-        for place in 0..self.width {
-            into[place] = self.bit_of(row, place);
+        for k in 0..self.span {
+            let word = self.words[row * self.span + k];
+            for place in 64 * k..64 * k + 64.min(self.width - 64 * k) {
+                into[place] = (word >> (place % 64)) & 1 == 1;
+            }
         }
     }
 

@@ -9,7 +9,7 @@ use Rattle.lid_texts_packed.proofs.rows.PackedRows.unpack.Goals as goal
 pub read-requires-clause-row : goal.read-requires-clause-row
 read-requires-clause-row c =
     let p = c.self.inside in
-    let count = rows_count p.bits p.width p.count in
+    let count = rows_count p.words.items p.width p.count in
     let same = ap (λ (v : WideRows). length v.rows) c.self.view_is in
     omega (arith, c.loop-row-test.true)
 
@@ -18,10 +18,10 @@ loop-row-preserved c =
     let rows = c.args.self.now.rows in
     let t = c.loop-row.row in
     let p = c.self.inside in
-    let count = rows_count p.bits p.width p.count in
+    let count = rows_count p.words.items p.width p.count in
     let same = ap (λ (v : WideRows). length v.rows) c.self.view_is in
     let inside : t < p.count = c.loop-row-test.true in
-    let wide : length c.read.new.into ≡ p.width = ap (λ (r : List Bool). length r) (c.read.ensures ∙ ap (λ (v : WideRows). get_or v.rows t []) (sym c.self.view_is)) ∙ row_wide p.bits p.width p.count t inside in
+    let wide : length c.read.new.into ≡ p.width = ap (λ (r : List Bool). length r) (c.read.ensures ∙ ap (λ (v : WideRows). get_or v.rows t []) (sym c.self.view_is)) ∙ row_wide p.words.items p.width p.count t inside in
     let long : length c.read.new.into ≡ c.in_ok-bits.bits.len = wide ∙ sym c.in_ok-bits.ensures.len in
     c.in_ok-push.ensures.items
     ∙ ap (λ (xs : List (List Bool)). xs ++ c.from_vec.result ∷ []) c.loop-row.invariant
@@ -31,7 +31,7 @@ loop-row-preserved c =
 pub returns : goal.returns
 returns c =
     let p = c.self.inside in
-    let count = rows_count p.bits p.width p.count in
+    let count = rows_count p.words.items p.width p.count in
     let same = ap (λ (v : WideRows). length v.rows) c.self.view_is in
     let rows = c.args.self.now.rows in
     let all : c.loop-row.row ≡ length rows = omega (arith, c.loop-row-test.false, c.loop-row.auto.row-end) in
