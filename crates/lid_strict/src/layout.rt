@@ -54,7 +54,7 @@ pub fn lay_out(
     ensures { IfOk result (IsLaidOut (map (shown_driver design.now) drivers.now) order.now) }
 {
     let plain = plain_covers(alloc)?;
-    let mut layout = no_layout(alloc, drivers.len())?;
+    let mut layout = no_layout(alloc, drivers.len());
     for number in order {
         let driver = &drivers[*number as usize];
         push_driver(&mut layout, &plain, design, *number, driver)?;
@@ -63,22 +63,19 @@ pub fn lay_out(
 }
 
 /// A layout of nothing, for so many numbers.
-fn no_layout(alloc: Global, size: usize) -> Result<Layout, AllocError>
-    ensures program { IfOk result (λ layout. IsProgram layout.program) }
-    ensures nets { IfOk result (λ layout. layout.program.nets ≡ size) }
-    ensures covers { IfOk result (λ layout. program_covers layout.program ≡ []) }
-    ensures ins { IfOk result (λ layout. layout.ins.items ≡ []) }
-    ensures places { IfOk result (λ layout. layout.places.items ≡ []) }
-    ensures latches { IfOk result (λ layout. layout.latches.items ≡ []) }
+fn no_layout(alloc: Global, size: usize) -> Layout
+    ensures program { IsProgram result.program }
+    ensures nets { result.program.nets ≡ size }
+    ensures covers { program_covers result.program ≡ [] }
+    ensures ins { result.ins.items ≡ [] }
+    ensures places { result.places.items ≡ [] }
+    ensures latches { result.latches.items ≡ [] }
 {
-    match u32::try_from(size) {
-        Ok(nets) => Ok(Layout {
-            program: Program::new(alloc, nets),
-            ins: Vec::new(alloc),
-            places: Vec::new(alloc),
-            latches: Vec::new(alloc),
-        }),
-        Err(_) => Err(AllocError),
+    Layout {
+        program: Program::new(alloc, size),
+        ins: Vec::new(alloc),
+        places: Vec::new(alloc),
+        latches: Vec::new(alloc),
     }
 }
 

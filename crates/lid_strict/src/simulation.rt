@@ -156,7 +156,7 @@ fn run_layout<R: RowSource>(
 {
     let mut state = first_state(alloc, run.layout.latches.as_slice())?;
     let mut inputs = Vec::from_elem(alloc, false, run.layout.places.len())?;
-    let mut bits = Vec::from_elem(alloc, false, run.layout.program.nets as usize)?;
+    let mut bits = Vec::from_elem(alloc, false, run.layout.program.nets)?;
     let mut out = Vec::from_elem(alloc, false, run.outs.len())?;
     run_rows(
         run,
