@@ -111,7 +111,7 @@ pub fn lay_out(
     ensures nets { IfOk result (λ x. x.program.nets ≡ flat.now.nets) }
     ensures shown { IfOk result (λ x. program_covers x.program ≡ filter (is_picked (bit_at marks.now) wanted) flat.now.covers) }
 {
-    let mut program = Program::new(alloc, flat.nets);
+    let mut program = Program::new(alloc, flat.nets as usize);
     let covers = flat.covers.as_slice();
     for i in 0..covers.len() {
         push_if(&mut program, &covers[i], marks, wanted)?;

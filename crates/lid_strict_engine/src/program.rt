@@ -14,9 +14,9 @@ use std::alloc::{AllocError, Global};
 #[derive(Clone, Copy)]
 pub struct Span {
     /// The place of the first.
-    pub start: u32,
+    pub start: usize,
     /// The place after the last.
-    pub end: u32,
+    pub end: usize,
 }
 
 /// A cover, and where its reads and its rows are in the arrays of its program.
@@ -27,7 +27,7 @@ pub struct ProgramStep {
     /// The net that it writes.
     pub out: u32,
     /// The place of its first read.
-    pub first: u32,
+    pub first: usize,
     /// How many nets it reads.
     pub width: u32,
     pub cubes: Span,
@@ -38,7 +38,7 @@ pub struct ProgramStep {
 /// Covers between nets, which are the numbers below `nets`, one after the other.
 #[derive(Drop)]
 pub struct Program {
-    pub nets: u32,
+    pub nets: usize,
     pub steps: Vec<ProgramStep>,
     /// The nets that covers read, cover after cover.
     pub reads: Vec<u32>,
@@ -49,7 +49,7 @@ pub struct Program {
 impl Program {
     /// No covers. It takes no memory.
     #[tactic(auto, unfolding(crate::specs::Programs::program_covers))]
-    pub fn new(alloc: Global, nets: u32) -> Program
+    pub fn new(alloc: Global, nets: usize) -> Program
         ensures laid { IsProgram result }
         ensures nets { result.nets ≡ nets }
         ensures none { program_covers result ≡ [] }
@@ -132,18 +132,8 @@ fn append<T: Copy>(to: &mut Vec<T>, items: &[T]) -> Result<Span, AllocError>
     ensures items { OnOk result (to.new.items ≡ to.old.items ++ items.now) }
     ensures part { IfOk result (λ part. (part.start ≡ length to.old.items) × (part.end ≡ length to.new.items)) }
 {
-    let start = place_of(to.len())?;
+    let start = to.len();
     to.extend_from_slice(items)?;
-    let end = place_of(to.len())?;
+    let end = to.len();
     Ok(Span { start, end })
-}
-
-/// A place of a flat array as a number of 32 bits; an array that is longer counts as want of memory.
-fn place_of(place: usize) -> Result<u32, AllocError>
-    ensures { IfOk result (λ number. number ≡ place) }
-{
-    match u32::try_from(place) {
-        Ok(number) => Ok(number),
-        Err(_) => Err(AllocError),
-    }
 }

@@ -85,7 +85,7 @@ fn mixed(alloc: Global) -> Result<Program, AllocError>
 /// Whether the steps of a program, as they are run in an order, write these nets, and stand in so many groups.
 fn writes(
     program: Program,
-    order: Vec<u32>,
+    order: Vec<usize>,
     outs: &[u32],
     groups: usize,
 ) -> Result<bool, AllocError>

@@ -41,7 +41,7 @@ fn reads_of(alloc: Global, reads: &[u32], steps: &[ProgramStep]) -> Result<Vec<u
 {
     let mut own = Vec::with_capacity(alloc, reads.len())?;
     for step in steps {
-        let first = step.first as usize;
+        let first = step.first;
         own.extend_from_slice(&reads[first..first + step.width as usize])?;
     }
     Ok(own)
@@ -80,7 +80,7 @@ fn groups_of(alloc: Global, steps: &[ProgramStep]) -> Result<Vec<Group>, AllocEr
 ///
 /// # Errors
 /// Where there is no memory.
-pub fn by_width(program: Program, order: Vec<u32>) -> Result<ByWidth, AllocError>
+pub fn by_width(program: Program, order: Vec<usize>) -> Result<ByWidth, AllocError>
     requires ready { IsProgram program }
     requires order { IsRunOrder (program_covers program) order.items }
     ensures is { IfOk result IsByWidth }

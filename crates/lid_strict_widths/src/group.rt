@@ -18,7 +18,7 @@ pub struct Group {
 pub struct ByWidth {
     pub program: Program,
     /// The places of the steps, as they are run.
-    pub order: Vec<u32>,
+    pub order: Vec<usize>,
     /// The net that each step writes, as they are run.
     pub outs: Vec<u32>,
     /// The truth table of each step, as they are run; that of a wide one says nothing.

@@ -13,7 +13,7 @@ fn level_of(step: ProgramStep, reads: &[u32], levels: &[u32]) -> u32 {
     let mut most = 0;
     for place in 0..step.width as usize {
         let net = reads
-            .get((step.first as usize).wrapping_add(place))
+            .get(step.first.wrapping_add(place))
             .copied()
             .unwrap_or(0);
         let level = levels.get(net as usize).copied().unwrap_or(0);
@@ -26,7 +26,7 @@ fn level_of(step: ProgramStep, reads: &[u32], levels: &[u32]) -> u32 {
 
 /// A number for each step by which steps are ordered: its level, as far as levels are told apart, then its width, then its place.
 fn keys_of(alloc: Global, program: &Program) -> Result<Vec<u64>, AllocError> {
-    let mut levels = Vec::from_elem(alloc, 0u32, program.nets as usize)?;
+    let mut levels = Vec::from_elem(alloc, 0u32, program.nets)?;
     let mut keys = Vec::with_capacity(alloc, program.steps.len())?;
     let mut place = 0u64;
     for step in program.steps.as_slice() {
@@ -44,12 +44,12 @@ fn keys_of(alloc: Global, program: &Program) -> Result<Vec<u64>, AllocError> {
 }
 
 /// The places of the steps of a program, those of a lower level first, and of one level those with fewer reads.
-pub(crate) fn propose(alloc: Global, program: &Program) -> Result<Vec<u32>, AllocError> {
+pub(crate) fn propose(alloc: Global, program: &Program) -> Result<Vec<usize>, AllocError> {
     let mut keys = keys_of(alloc, program)?;
     keys.sort_unstable();
     let mut order = Vec::with_capacity(alloc, keys.len())?;
     for key in keys.as_slice() {
-        order.push((*key % 4_294_967_296) as u32)?;
+        order.push((*key % 4_294_967_296) as usize)?;
     }
     Ok(order)
 }

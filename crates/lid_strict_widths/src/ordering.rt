@@ -17,25 +17,23 @@ use std::alloc::{AllocError, Global};
 pub(crate) fn collect_steps(
     alloc: Global,
     steps: &[ProgramStep],
-    places: &[u32],
+    places: &[usize],
 ) -> Result<Vec<ProgramStep>, AllocError>
     requires { AllByRecursion (λ k. k < length steps.now) places.now }
     ensures { IfOk result (λ picked. picked.items ≡ steps_at steps.now places.now) }
 {
     let mut picked = Vec::with_capacity(alloc, places.len())?;
     for place in places {
-        picked.push(steps[*place as usize])?;
+        picked.push(steps[*place])?;
     }
     Ok(picked)
 }
 
 /// Whether some numbers are places of steps.
-fn are_places(numbers: &[u32], steps: &[ProgramStep]) -> bool
+fn are_places(numbers: &[usize], steps: &[ProgramStep]) -> bool
     ensures { IsTrue result ↔ AllByRecursion (λ k. k < length steps.now) numbers.now }
 {
-    numbers
-        .iter()
-        .all(|number| (*number as usize) < steps.len())
+    numbers.iter().all(|number| *number < steps.len())
 }
 
 /// For each net below a number the place after the last step that writes it, and 0 where none does.
@@ -71,7 +69,7 @@ fn reads_past(reads: &[u32], steps: &[ProgramStep], last: &[usize]) -> bool
     ensures { result ≡ true → ReadsPast reads.now steps.now last.now }
 {
     for j in 0..steps.len() {
-        let first = steps[j].first as usize;
+        let first = steps[j].first;
         let nets = &reads[first..first + steps[j].width as usize];
         if !are_past(nets, last, j) {
             return false;
@@ -105,7 +103,7 @@ fn may_stand_in(program: &Program, steps: &[ProgramStep], last: &[usize]) -> boo
 }
 
 /// Whether a program may be run in an order.
-fn may_run_in(program: &Program, order: &[u32]) -> Result<bool, AllocError>
+fn may_run_in(program: &Program, order: &[usize]) -> Result<bool, AllocError>
     requires { IsProgram program.now }
     ensures { IfOk result (λ may. may ≡ true → IsRunOrder (program_covers program.now) order.now) }
 {
@@ -114,15 +112,15 @@ fn may_run_in(program: &Program, order: &[u32]) -> Result<bool, AllocError>
     }
     let alloc = *program.steps.allocator();
     let steps = collect_steps(alloc, program.steps.as_slice(), order)?;
-    let last = last_writes(alloc, program.nets as usize, steps.as_slice())?;
+    let last = last_writes(alloc, program.nets, steps.as_slice())?;
     Ok(may_stand_in(program, steps.as_slice(), last.as_slice()))
 }
 
 /// The numbers below one, in order.
-fn numbers_below(alloc: Global, count: u32) -> Result<Vec<u32>, AllocError>
+fn numbers_below(alloc: Global, count: usize) -> Result<Vec<usize>, AllocError>
     ensures { IfOk result (λ numbers. numbers.items ≡ from_each (λ k. k) 0 count) }
 {
-    let mut numbers = Vec::with_capacity(alloc, count as usize)?;
+    let mut numbers = Vec::with_capacity(alloc, count)?;
     for number in 0..count {
         numbers.push(number)?;
     }
@@ -133,20 +131,17 @@ fn numbers_below(alloc: Global, count: u32) -> Result<Vec<u32>, AllocError>
 ///
 /// # Errors
 /// Where there is no memory.
-pub fn as_laid(program: &Program) -> Result<Vec<u32>, AllocError>
+pub fn as_laid(program: &Program) -> Result<Vec<usize>, AllocError>
     ensures { IfOk result (λ order. IsRunOrder (program_covers program.now) order.items) }
 {
-    match u32::try_from(program.steps.len()) {
-        Ok(count) => numbers_below(*program.steps.allocator(), count),
-        Err(_) => Err(AllocError),
-    }
+    numbers_below(*program.steps.allocator(), program.steps.len())
 }
 
 /// An order in which a program may be run: by level and width where that passes its test, else as its steps stand.
 ///
 /// # Errors
 /// Where there is no memory.
-pub fn by_level(program: &Program) -> Result<Vec<u32>, AllocError>
+pub fn by_level(program: &Program) -> Result<Vec<usize>, AllocError>
     requires { IsProgram program.now }
     ensures { IfOk result (λ order. IsRunOrder (program_covers program.now) order.items) }
 {

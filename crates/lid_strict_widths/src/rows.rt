@@ -53,10 +53,10 @@ pub(crate) fn value_of_step(program: &Program, step: ProgramStep, bits: &[bool])
     ensures { result ≡ cover_value (step_cover program.now.cubes.items step) (map (bit_at bits.now)
         (take step.width (drop step.first program.now.reads.items))) }
 {
-    let first = step.first as usize;
+    let first = step.first;
     value_by_rows(
         step.on,
-        &program.cubes.as_slice()[step.cubes.start as usize..step.cubes.end as usize],
+        &program.cubes.as_slice()[step.cubes.start..step.cubes.end],
         &program.reads.as_slice()[first..first + step.width as usize],
         bits,
     )

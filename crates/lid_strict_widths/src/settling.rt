@@ -63,7 +63,7 @@ fn step_at(x: &ByWidth, i: usize) -> ProgramStep
     requires within { i < length (run_steps x.now) }
     ensures { slice_get (run_steps x.now) i ≡ Some result }
 {
-    x.program.steps[x.order[i] as usize]
+    x.program.steps[x.order[i]]
 }
 
 /// Runs the steps of a group by the rows of their covers, and answers where the reads after theirs begin.
