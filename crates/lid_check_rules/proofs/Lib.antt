@@ -4,3 +4,4 @@ pub mod Roots
 pub mod Faults
 pub mod Passing
 pub mod Buffers
+pub mod Ports

@@ -1,10 +1,10 @@
 -- What conditions tell, by the names that they tell of.
-use Rattle.std.proofs.Common.{◌≡◌, ℕ, not, find, List, map, Option, Some, None, option_map, option_and_then, refl, ◌∙◌}
+use Rattle.std.proofs.Common.{◌≡◌, ℕ, not, find, List, map, Option, Some, None, option_map, option_and_then, false, refl, ap, ◌∙◌}
 use Rattle.lid_design.specs.declared.Design.{Design}
 use Rattle.lid_design.specs.declared.Model.{Model}
 use Rattle.lid_design.specs.declared.Inst.{Inst}
 use Rattle.lid_design.specs.Columns.{is_among, model_named, data_inputs}
-use Rattle.lid_design.specs.Models.{is_port, formal_of, formals}
+use Rattle.lid_design.specs.Models.{is_port, formal_of, formals, occurrences}
 use Rattle.lid_check_rules.specs.declared.fault.CheckFault.TheVariants as fault
 use Rattle.lid_check_ports.specs.declared.formals.InstRule.{InstRule}
 use Rattle.lid_check_ports.specs.declared.formals.InstRule.TheVariants.{UnknownFormal, FormalTwice, Unbound}
@@ -16,7 +16,7 @@ use Rattle.lid_check_ports.specs.Formals.{faulty_formal}
 use Rattle.lid_check_rules.specs.Names.{name_rule, name_at, by_names, told_by, first_by_rules, is_faulty, told_name}
 use Rattle.lid_check_rules.specs.declared.names.Findings.{Findings}
 use Rattle.lid_check_rules.proofs.Faults.{same_told}
-use Rattle.lid_check_rules.proofs.Sets.{find_map}
+use Rattle.lid_check_rules.proofs.Sets.{find_map, find_none}
 
 map_then : {A B C : Type 0} (f : B → C) (g : A → Option B) (o : Option A) → option_and_then (λ a. option_map f (g a)) o ≡ option_map f (option_and_then g o)
 map_then f g None = refl
@@ -37,6 +37,10 @@ pub rule_by_name : (rule : NameRule) (d : Design) (m : Model) → name_rule rule
 rule_by_name TwoDrivers d m = refl
 rule_by_name Undriven d m = refl
 rule_by_name ClockUse d m = refl
+
+-- where a condition is broken at no name it tells nothing
+pub rule_unbroken : (rule : NameRule) (d : Design) (m : Model) → ((name : List ℕ) → is_faulty rule d m name ≡ false) → name_rule rule d m ≡ None
+rule_unbroken rule d m never = rule_by_name rule d m ∙ ap (option_map (told_name rule m.name)) (find_none (is_faulty rule d m) (occurrences m) never)
 
 -- what the conditions on names tell, by what each tells of each model
 pub told_by_rules : (d : Design) (ks : List ℕ) (list : List Findings) → ((rule : NameRule) → map (told_by rule) list ≡ map (name_at rule d) ks) → first_by_rules list ≡ by_names d ks

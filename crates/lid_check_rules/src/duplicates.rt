@@ -1,4 +1,4 @@
-ghost use Rattle.std.specs.Prelude.{◌≡◌, ◌&&◌, ◌||◌, find, IfOk};
+ghost use Rattle.std.specs.Prelude.{◌≡◌, ◌++◌, ◌&&◌, ◌||◌, find, IfOk};
 ghost use Rattle.lid_check_names.specs.Names.{is_among, texts, IsTally};
 ghost use Rattle.lid_check_rules.specs.Conditions.{is_duplicate, duplicate_in, first_name};
 ghost use Rattle.lid_check_rules.specs.Early.{duplicate_at, duplicates};
@@ -6,7 +6,7 @@ ghost use Rattle.lid_check_ports.specs.Formals.{name_behind};
 ghost use Rattle.lid_check_rules.specs.Told.{shown_of};
 
 use crate::told::{NameFault, Told};
-use lid_check_names::{NameTally, list_occurrences, model_at, tally_of};
+use lid_check_names::{NameTally, model_at, push_names, tally_of};
 use lid_design::{Design, Model};
 use std::alloc::{AllocError, Global};
 
@@ -84,7 +84,7 @@ fn first_duplicate<'d>(
     first_in_lists(alloc, is_root, &lists)
 }
 
-/// The first name of a model that stands twice in its lists, by the names of each.
+/// The first name of a model that stands twice in its lists, by the names of each. It stands in a list.
 fn first_in_lists<'d>(
     alloc: Global,
     is_root: bool,
@@ -92,8 +92,19 @@ fn first_in_lists<'d>(
 ) -> Result<Option<&'d [u8]>, AllocError>
     ensures { IfOk result (λ name. name_behind name ≡ first_name (is_duplicate is_root lists.now.model.now) lists.now.model.now) }
 {
-    let names = list_occurrences(alloc, lists.model)?;
+    let names = list_ports(alloc, lists.model)?;
     Ok(first_among(is_root, lists, names.as_slice()))
+}
+
+/// The names in the lists of a model.
+fn list_ports<'d>(alloc: Global, model: &'d Model) -> Result<Vec<&'d [u8]>, AllocError>
+    ensures { IfOk result (λ list. texts list.items ≡ model.now.inputs ++ model.now.outputs ++ model.now.clocks) }
+{
+    let mut list = Vec::new(alloc);
+    push_names(&mut list, model.inputs.as_slice())?;
+    push_names(&mut list, model.outputs.as_slice())?;
+    push_names(&mut list, model.clocks.as_slice())?;
+    Ok(list)
 }
 
 /// Collects the names of each list of a model.

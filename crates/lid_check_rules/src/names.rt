@@ -1,5 +1,6 @@
-ghost use Rattle.std.specs.Prelude.{◌≡◌, ◌<◌, ◌^◌, Some, None, find, map, length, slice_get, IfOk};
-ghost use Rattle.lid_check_names.specs.Names.{texts};
+ghost use Rattle.std.specs.Prelude.{◌≡◌, ◌<◌, ◌^◌, ℕ, List, true, false, Some, None, find, map, length, slice_get, IfOk};
+ghost use Rattle.std.specs.List.{list_all};
+ghost use Rattle.lid_check_names.specs.Names.{texts, is_among};
 ghost use Rattle.lid_design.specs.Models.{IsReached, AreReached, occurrences};
 ghost use Rattle.lid_check_ports.specs.Nets.{AreNets};
 ghost use Rattle.lid_check_rules.specs.declared.names.NameRule.{NameRule};
@@ -9,7 +10,7 @@ ghost use Rattle.lid_check_ports.specs.Formals.{name_behind};
 ghost use Rattle.lid_check_rules.specs.Told.{fault_of_told, shown_of};
 
 use crate::told::{NameFault, Told, first_of};
-use lid_check_names::list_occurrences;
+use lid_check_names::{NameSet, list_occurrences};
 use lid_check_ports::{Nets, Port, Ports, collect_nets};
 use lid_design::Model;
 use std::alloc::{AllocError, Global};
@@ -148,12 +149,52 @@ fn tell_first<'d>(
     requires names { texts names.now ≡ occurrences nets.now.model.now }
     ensures { shown_of result ≡ name_rule rule ports.now nets.now.model.now }
 {
+    if is_unbroken(ports, rule, k, nets) {
+        return None;
+    }
     for name in names {
         if is_faulty(ports, rule, k, nets, name) {
             return Some(tell_name(rule, nets.model.name.as_slice(), name));
         }
     }
     None
+}
+
+/// Whether a condition is broken at no name of a model, where that is told without going over the names.
+fn is_unbroken(ports: &Ports<'_>, rule: NameRule, k: u32, nets: &Nets<'_>) -> bool
+    requires { AreNets ports.now k nets.now }
+    ensures { result ≡ true → (name : List ℕ) → is_faulty rule ports.now nets.now.model.now name ≡ false }
+{
+    let _ = ports;
+    let _ = k;
+    match rule {
+        NameRule::TwoDrivers => nets.drivers.all.twice.len() == 0,
+        NameRule::Undriven => has_all(&nets.drivers.all.all, &nets.reads),
+        NameRule::ClockUse => false,
+    }
+}
+
+/// Whether a set has all names of another.
+fn has_all(set: &NameSet<'_>, names: &NameSet<'_>) -> bool
+    ensures { result ≡ list_all (λ name. is_among name set.now) names.now }
+{
+    for i in 0..names.len() {
+        if !has_at(set, names, i) {
+            return false;
+        }
+    }
+    true
+}
+
+/// Whether a set has the name at a place of another.
+fn has_at(set: &NameSet<'_>, names: &NameSet<'_>, place: usize) -> bool
+    requires { place < length names.now }
+    ensures { (name : List ℕ) → slice_get names.now place ≡ Some name → result ≡ is_among name set.now }
+{
+    match names.name_at(place) {
+        Some(name) => set.has(name),
+        None => false,
+    }
 }
 
 /// Tells of a name.

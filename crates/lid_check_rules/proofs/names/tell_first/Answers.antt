@@ -1,7 +1,11 @@
-use Rattle.std.proofs.Common.{arith}
+use Rattle.std.proofs.Common.{arith, sym}
 use Rattle.std.proofs.lemmas.Grind.{common_steps}
-use Rattle.lid_check_rules.proofs.Telling.{rule_by_name}
+use Rattle.lid_check_rules.proofs.Telling.{rule_by_name, rule_unbroken}
 use Rattle.lid_check_rules.proofs.names.tell_first.Goals as goal
+
+pub returns-then-is_unbroken : goal.returns-then-is_unbroken
+returns-then-is_unbroken c =
+    sym (rule_unbroken c.args.rule c.args.ports.now c.args.nets.now.model.now (c.is_unbroken.ensures c.if-is_unbroken.true))
 
 pub returns-then-is_faulty : goal.returns-then-is_faulty
 returns-then-is_faulty c =
