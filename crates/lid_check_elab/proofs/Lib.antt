@@ -9,5 +9,6 @@ pub mod Whole
 pub mod Entering
 pub mod Counting
 pub mod Driving
+pub mod Few
 pub mod Picking
 pub mod Binding

@@ -1,4 +1,4 @@
-ghost use Rattle.std.specs.Prelude.{◌≡◌, ◌+◌, ◌++◌, ◌∷◌, [], Some, length, map, flat_map, slice_get, IfOk, OnOk};
+ghost use Rattle.std.specs.Prelude.{◌≡◌, ◌≤◌, ◌+◌, ◌++◌, ◌∷◌, [], Some, length, map, flat_map, slice_get, IfOk, OnOk};
 ghost use Rattle.lid_design.specs.Columns.{first_bit};
 ghost use Rattle.lid_design.specs.Models.{insts_of, instance_number, IsReached};
 ghost use Rattle.std.specs.List.{enumerate_from};
@@ -8,7 +8,7 @@ ghost use Rattle.lid_check_elab.specs.Templates.{shown_local, net_place};
 ghost use Rattle.lid_check_elab.specs.Covers.{cells_at, cover_in};
 ghost use Rattle.lid_check_elab.specs.Parts.{Grows, ShowsDrivers, data_of, output_sets};
 
-use crate::places::{model_at, narrow, place_in, places_of};
+use crate::places::{model_at, place_in, places_of};
 use crate::template::LocalDriver;
 use lid_base::Name;
 use lid_check_drivers::Judged;
@@ -48,15 +48,23 @@ pub fn driven_of<'d>(
     requires outputs { outputs.now ≡ output_sets judged.now.models }
     ensures { IfOk result (ShowsDrivers judged.now model (model_locals judged.now model)) }
 {
+    let _ = judged.design();
     let body = model_at(judged, model);
-    let mut driven = Driven {
-        nets: Vec::new(alloc),
-        locals: Vec::new(alloc),
-    };
+    let mut driven = nothing_driven(alloc, body.cells.as_slice().len())?;
     push_inputs(&mut driven, judged, model, body.inputs.as_slice())?;
     push_cells(alloc, &mut driven, judged, model, body.cells.as_slice())?;
     push_insts(&mut driven, judged, outputs, model, body.insts.as_slice())?;
     Ok(driven)
+}
+
+/// Nothing that drives nets, with room for so much.
+fn nothing_driven<'d>(alloc: Global, room: usize) -> Result<Driven<'d>, AllocError>
+    ensures nets { IfOk result (λ driven. driven.nets.items ≡ []) }
+    ensures locals { IfOk result (λ driven. driven.locals.items ≡ []) }
+{
+    let nets = Vec::with_capacity(alloc, room)?;
+    let locals = Vec::with_capacity(alloc, room)?;
+    Ok(Driven { nets, locals })
 }
 
 /// Pushes a net, and what drives it.
@@ -76,7 +84,8 @@ fn push_inputs<'d>(
     model: u32,
     inputs: &'d [Name],
 ) -> Result<(), AllocError>
-    requires { IsReached judged.now model }
+    requires reached { IsReached judged.now model }
+    requires few { length (data_of judged.now model inputs.now) ≤ 1048576 }
     ensures { OnOk result (Grows judged.now model (inputs_from 0 (data_of judged.now model inputs.now)) into.old into.new) }
 {
     let mut count = 0;
@@ -92,18 +101,18 @@ fn push_input<'d>(
     into: &mut Driven<'d>,
     judged: &Judged<'d>,
     model: u32,
-    count: usize,
+    count: u32,
     input: &'d Name,
-) -> Result<usize, AllocError>
-    requires { IsReached judged.now model }
+) -> Result<u32, AllocError>
+    requires reached { IsReached judged.now model }
+    requires few { count + length (data_of judged.now model (input.now ∷ [])) ≤ 1048576 }
     ensures pushed { OnOk result (Grows judged.now model (inputs_from count (data_of judged.now model (input.now ∷ []))) into.old into.new) }
     ensures next { IfOk result (λ next. next ≡ count + length (data_of judged.now model (input.now ∷ []))) }
 {
     if judged.is_clock(model, input.as_slice()) {
         return Ok(count);
     }
-    let place = narrow(count)?;
-    push_net(into, input.as_slice(), LocalDriver::Input(place))?;
+    push_net(into, input.as_slice(), LocalDriver::Input(count))?;
     Ok(count + 1)
 }
 
@@ -117,10 +126,11 @@ fn push_cells<'d>(
 ) -> Result<(), AllocError>
     requires reached { IsReached judged.now model }
     requires cells { cells.now ≡ cells_at judged.now model }
+    requires few { length cells.now ≤ 1048576 }
     ensures { OnOk result (Grows judged.now model (map local_of cells.now) into.old into.new) }
 {
-    for i in 0..cells.len() {
-        push_cell(alloc, into, judged, model, i, &cells[i])?;
+    for i in 0..cells.len() as u32 {
+        push_cell(alloc, into, judged, model, i, &cells[i as usize])?;
     }
     Ok(())
 }
@@ -131,7 +141,7 @@ fn push_cell<'d>(
     into: &mut Driven<'d>,
     judged: &Judged<'d>,
     model: u32,
-    i: usize,
+    i: u32,
     cell: &'d Cell,
 ) -> Result<(), AllocError>
     requires reached { IsReached judged.now model }
@@ -161,13 +171,12 @@ fn cover_of(
     alloc: Global,
     judged: &Judged<'_>,
     model: u32,
-    i: usize,
+    cell: u32,
     inputs: &[Name],
 ) -> Result<LocalDriver, AllocError>
     requires { IsReached judged.now model }
-    ensures { IfOk result (λ local. shown_local judged.now local ≡ local_cover (cover_in judged.now model i) (map (net_place judged.now model) inputs.now)) }
+    ensures { IfOk result (λ local. shown_local judged.now local ≡ local_cover (cover_in judged.now model cell) (map (net_place judged.now model) inputs.now)) }
 {
-    let cell = narrow(i)?;
     let inputs = places_of(alloc, judged, model, inputs)?;
     Ok(LocalDriver::Cover {
         model,

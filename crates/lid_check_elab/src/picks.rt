@@ -1,4 +1,4 @@
-ghost use Rattle.std.specs.Prelude.{◌≡◌, [], slice_index_or, IfOk};
+ghost use Rattle.std.specs.Prelude.{◌≡◌, ◌≤◌, [], length, slice_index_or, IfOk};
 ghost use Rattle.std.specs.List.{position_or_len};
 ghost use Rattle.std.specs.Str.{bytes_eq};
 ghost use Rattle.lid_design.specs.Models.{firsts, IsReached};
@@ -6,7 +6,6 @@ ghost use Rattle.lid_design.specs.Elaboration.{model_nets};
 ghost use Rattle.lid_check_names.specs.Names.{texts};
 ghost use Rattle.lid_check_elab.specs.Parts.{picks_among};
 
-use crate::places::narrow;
 use lid_base::Items;
 use lid_check_drivers::Judged;
 use lid_check_names::NameSet;
@@ -19,7 +18,8 @@ pub fn picks_of<'d>(
     driven: &[&'d [u8]],
     model: u32,
 ) -> Result<Items<u32>, AllocError>
-    requires { IsReached judged.now model }
+    requires reached { IsReached judged.now model }
+    requires few { length driven.now ≤ 1048576 }
     ensures { IfOk result (λ picks. picks ≡ picks_among judged.now model (firsts (texts driven.now))) }
 {
     let set = NameSet::collect(alloc, driven)?;
@@ -33,12 +33,13 @@ fn picks_in(
     set: &NameSet<'_>,
     model: u32,
 ) -> Result<Items<u32>, AllocError>
-    requires { IsReached judged.now model }
+    requires reached { IsReached judged.now model }
+    requires few { length set.now ≤ 1048576 }
     ensures { IfOk result (λ picks. picks ≡ picks_among judged.now model set.now) }
 {
-    let mut picks = Vec::new(alloc);
+    let mut picks = Vec::with_capacity(alloc, judged.count_nets(model))?;
     for place in 0..judged.count_nets(model) {
-        picks.push(pick_in(set, net_at(judged, model, place))?)?;
+        picks.push(pick_in(set, net_at(judged, model, place)))?;
     }
     Ok(Items::from_vec(picks))
 }
@@ -55,11 +56,12 @@ fn net_at<'d>(judged: &Judged<'d>, model: u32, place: usize) -> &'d [u8]
 }
 
 /// The place of a name in a set; the number of its names where it is none of them.
-fn pick_in(set: &NameSet<'_>, name: &[u8]) -> Result<u32, AllocError>
-    ensures { IfOk result (λ pick. pick ≡ position_or_len (bytes_eq name.now) set.now) }
+fn pick_in(set: &NameSet<'_>, name: &[u8]) -> u32
+    requires { length set.now ≤ 1048576 }
+    ensures { result ≡ position_or_len (bytes_eq name.now) set.now }
 {
     match set.place_of(name) {
-        Some(place) => narrow(place),
-        None => narrow(set.len()),
+        Some(place) => place as u32,
+        None => set.len() as u32,
     }
 }

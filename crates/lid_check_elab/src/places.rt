@@ -63,13 +63,3 @@ pub fn places_of(
     }
     Ok(Items::from_vec(places))
 }
-
-/// A place as a number of 32 bits. There is no memory for more.
-pub fn narrow(place: usize) -> Result<u32, AllocError>
-    ensures { IfOk result (λ narrow. narrow ≡ place) }
-{
-    if place > u32::MAX as usize {
-        return Err(AllocError);
-    }
-    Ok(place as u32)
-}

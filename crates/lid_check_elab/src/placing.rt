@@ -49,6 +49,7 @@ pub fn push_drivers(
     ensures { OnOk result (map (shown_driver judged.now) drivers.new.items ≡ map (shown_driver judged.now) drivers.old.items
         ++ map (picked_driver judged.now base.entry.start base.entry.offsets.now (seen_around base.entry.around) locals.now) picks.now) }
 {
+    drivers.reserve(picks.len())?;
     for pick in picks {
         let local = &locals[*pick as usize];
         drivers.push(place_driver(alloc, judged, base, local)?)?;

@@ -26,7 +26,7 @@ fn reads_of(alloc: Global, driver: &ColumnDriver) -> Result<Items<u32>, AllocErr
 pub fn find_reads(alloc: Global, drivers: &[ColumnDriver]) -> Result<Items<Items<u32>>, AllocError>
     ensures { IfOk result (λ reads. reads ≡ map driver_reads drivers.now) }
 {
-    let mut all = Vec::new(alloc);
+    let mut all = Vec::with_capacity(alloc, drivers.len())?;
     for driver in drivers {
         all.push(reads_of(alloc, driver)?)?;
     }

@@ -124,7 +124,7 @@ pub fn find_templates(alloc: Global, judged: &Judged<'_>) -> Result<Items<Templa
 {
     let sizes = find_sizes(alloc, judged)?;
     let outputs = collect_outputs(alloc, judged.design().models.as_slice())?;
-    let mut templates = Vec::new(alloc);
+    let mut templates = Vec::with_capacity(alloc, sizes.as_slice().len())?;
     push_templates(
         alloc,
         judged,
