@@ -1,6 +1,7 @@
 -- Truth tables are their bits packed into one number.
-use Rattle.std.proofs.Common.{◌≡◌, ℕ, zero, suc, ◌+◌, ◌-◌, ◌*◌, ◌/◌, ◌%◌, ◌^◌, ◌<◌, ◌≤◌, ◌==◌, Bool, true, false, if◌then◌else◌, List, [], ◌∷◌, length, get_or, map, take, drop, refl, sym, ◌∙◌, ap, subst, arith}
-use Rattle.std.proofs.Math.Nat.{pow-le-pow_right, pow-succ', zero-div, div-one}
+use Rattle.std.proofs.Common.{◌≡◌, ℕ, zero, suc, ◌+◌, ◌-◌, ◌*◌, ◌/◌, ◌%◌, ◌^◌, ◌<◌, ◌≤◌, ◌==◌, Bool, true, false, if◌then◌else◌, List, [], ◌∷◌, ◌++◌, length, get_or, map, take, drop, refl, sym, ◌∙◌, ap, subst, arith}
+use Rattle.std.proofs.Math.Nat.{pow-le-pow_right, pow-succ', two-pow-succ, mul_assoc, zero-div, div-one}
+use Rattle.std.proofs.Math.Pow.{pow_mono}
 use Rattle.std.proofs.lemmas.Nat.{shr-shr, mod-pow-add}
 use Rattle.std.proofs.lemmas.Bool.{eqb-true, eq-eqb}
 use Rattle.std.proofs.lemmas.List.{length-map, length-drop}
@@ -9,8 +10,8 @@ use Rattle.lid_cover.specs.Cover.{cover_value, lowest_bit}
 use Rattle.lid_cover.specs.Masks.{packed}
 use Rattle.lid_base.specs.Each.{from_each}
 use Rattle.lid_strict_engine.specs.Rows.{bit_at}
-use Rattle.lid_strict_engine.specs.Truth.{is_set, unpacked, IsTruthTable}
-use Rattle.lid_base.proofs.Each.{each_length, each_at}
+use Rattle.lid_strict_engine.specs.Truth.{is_set, unpacked, value_at, IsTruthTable, HasValues}
+use Rattle.lid_base.proofs.Each.{each_length, each_at, each_append}
 
 abbrev one : Bool → ℕ
 one bit = if bit then 1 else 0
@@ -103,45 +104,124 @@ unpacked_packed (suc n) (bit ∷ bits) few =
     let tail : unpacked n ((one bit + 2 * packed bits) / 2) ≡ take n bits = ap (unpacked n) (half bit (packed bits)) ∙ unpacked_packed n bits (omega arith) in
     ap (λ (b : Bool). b ∷ unpacked n ((one bit + 2 * packed bits) / 2)) head ∙ ap (λ (bs : List Bool). bit ∷ bs) tail
 
--- the values of a cover at the lowest bits of numbers
-abbrev pub value_at : Cover → ℕ → Bool
-value_at cover i = cover_value cover (unpacked cover.inputs i)
+-- numbers that have the same lowest bits
+unpacked_again : (n e i : ℕ) → n ≤ e → unpacked n (2 ^ e + i) ≡ unpacked n i
+unpacked_again zero e i few = refl
+unpacked_again (suc n) zero i few = absurd (omega arith)
+unpacked_again (suc n) (suc e) i few =
+    let double : 2 ^ suc e ≡ 2 * 2 ^ e = pow-succ' 2 e in
+    let first : (2 ^ suc e + i) % 2 ≡ i % 2 = omega arith in
+    let rest : (2 ^ suc e + i) / 2 ≡ 2 ^ e + i / 2 = omega arith in
+    ap (λ (m : ℕ). (m == 1) ∷ unpacked n ((2 ^ suc e + i) / 2)) first
+    ∙ ap (λ (m : ℕ). lowest_bit i ∷ unpacked n m) rest
+    ∙ ap (λ (bits : List Bool). lowest_bit i ∷ bits) (unpacked_again n e (i / 2) (omega arith))
 
--- a table that has the values from some place on
+-- the values from two places on, where they are the same
+each_again : (v : ℕ → Bool) (k j n : ℕ) → ((i : ℕ) → v (k + i) ≡ v (j + i)) → from_each v k n ≡ from_each v j n
+each_again v k j zero same = refl
+each_again v k j (suc n) same =
+    let head : v k ≡ v j = (let e : k ≡ k + 0 = omega arith in ap v e) ∙ same 0 ∙ (let e : j + 0 ≡ j = omega arith in ap v e) in
+    let next = λ (i : ℕ). (let e : (k + 1) + i ≡ k + suc i = omega arith in ap v e) ∙ same (suc i) ∙ (let e : j + suc i ≡ (j + 1) + i = omega arith in ap v e) in
+    ap (λ (b : Bool). b ∷ from_each v (k + 1) n) head ∙ ap (λ (bs : List Bool). v j ∷ bs) (each_again v (k + 1) (j + 1) n next)
+
+packed_append : (xs ys : List Bool) → packed (xs ++ ys) ≡ packed xs + 2 ^ length xs * packed ys
+packed_append [] ys = omega arith
+packed_append (x ∷ xs) ys =
+    let later = packed_append xs ys in
+    let double : 2 ^ suc (length xs) ≡ 2 * 2 ^ length xs = pow-succ' 2 (length xs) in
+    let above : 2 ^ suc (length xs) * packed ys ≡ 2 * (2 ^ length xs * packed ys) = ap (λ (n : ℕ). n * packed ys) double ∙ mul_assoc 2 (2 ^ length xs) (packed ys) in
+    by (2 ^ length xs * packed ys) (2 ^ suc (length xs) * packed ys) (packed (xs ++ ys)) later above
+  where
+    by : (p q r : ℕ) → r ≡ packed xs + p → q ≡ 2 * p → one x + 2 * r ≡ (one x + 2 * packed xs) + q
+    by p q r later above = omega arith
+
+-- the values of a cover below 2^e, and again, are those below 2^(e + 1)
+pub values_again : (cover : Cover) (e table more : ℕ) → cover.inputs ≤ e → HasValues cover e table → more ≡ table + 2 ^ (2 ^ e) * table → HasValues cover (e + 1) more
+values_again cover e table more few has is =
+    let v = value_at cover in
+    let n = 2 ^ e in
+    let bits = from_each v 0 n in
+    let place : 0 + n ≡ n = omega arith in
+    let periodic = λ (i : ℕ). ap (cover_value cover) (unpacked_again cover.inputs e i few) ∙ (let z : i ≡ 0 + i = omega arith in ap v z) in
+    let same : from_each v (0 + n) n ≡ bits = ap (λ (k : ℕ). from_each v k n) place ∙ each_again v n 0 n periodic in
+    let count : 2 ^ (e + 1) ≡ n + n = (let s : e + 1 ≡ suc e = omega arith in ap (λ (k : ℕ). 2 ^ k) s) ∙ two-pow-succ e in
+    let long : length bits ≡ n = each_length v 0 n in
+    is
+    ∙ ap (λ (t : ℕ). t + 2 ^ n * t) has
+    ∙ ap (λ (k : ℕ). packed bits + 2 ^ k * packed bits) (sym long)
+    ∙ sym (packed_append bits bits)
+    ∙ ap (λ (more : List Bool). packed (bits ++ more)) (sym same)
+    ∙ ap packed (sym (each_append v 0 n n))
+    ∙ ap (λ (k : ℕ). packed (from_each v 0 k)) (sym count)
+
+pub values_below : (cover : Cover) (e table : ℕ) → HasValues cover e table → table < 2 ^ (2 ^ e)
+values_below cover e table has =
+    let long = each_length (value_at cover) 0 (2 ^ e) in
+    subst (λ (n : ℕ). n < 2 ^ (2 ^ e)) (sym has) (packed_below (from_each (value_at cover) 0 (2 ^ e)) (2 ^ e) (omega arith))
+
+-- all values
+pub values_all : (cover : Cover) (table : ℕ) → HasValues cover 6 table → IsTruthTable table cover
+values_all cover table has i h =
+    let v = value_at cover in
+    ap (λ (n : ℕ). is_set n i) has
+    ∙ packed_bit (from_each v 0 64) i
+    ∙ each_at v 0 64 i false h
+    ∙ ap v (omega arith)
+
+-- a table that has the values of a cover from some place on
 abbrev pub HasFrom : Cover → ℕ → ℕ → Type 0
-HasFrom cover table left = (left ≤ 64) × (table ≡ packed (from_each (value_at cover) left (64 - left)))
+HasFrom cover table left = (left ≤ 2 ^ cover.inputs) × (table ≡ packed (from_each (value_at cover) left (2 ^ cover.inputs - left)))
 
-pub has_none : (cover : Cover) → HasFrom cover 0 64
-has_none cover = (omega arith, refl)
+pub has_none : (cover : Cover) (left : ℕ) → left ≡ 2 ^ cover.inputs → HasFrom cover 0 left
+has_none cover left is =
+    let none : 2 ^ cover.inputs - left ≡ 0 = omega arith in
+    (omega arith, ap (λ (n : ℕ). packed (from_each (value_at cover) left n)) (sym none))
 
-pub small_from : (cover : Cover) (table left : ℕ) → HasFrom cover table left → 0 < left → table < 9223372036854775808
-small_from cover table left has some =
-    let long = each_length (value_at cover) left (64 - left) in
-    let within : left ≤ 64 = has.0 in
-    subst (λ (n : ℕ). n < 9223372036854775808) (sym has.1) (packed_below (from_each (value_at cover) left (64 - left)) 63 (omega arith))
+pub small_from : (cover : Cover) (table left : ℕ) → cover.inputs ≤ 6 → HasFrom cover table left → 0 < left → table < 9223372036854775808
+small_from cover table left few has some =
+    let long = each_length (value_at cover) left (2 ^ cover.inputs - left) in
+    let within : left ≤ 2 ^ cover.inputs = has.0 in
+    let most : 2 ^ cover.inputs ≤ 2 ^ 6 = pow_mono few in
+    subst (λ (n : ℕ). n < 9223372036854775808) (sym has.1) (packed_below (from_each (value_at cover) left (2 ^ cover.inputs - left)) 63 (omega arith))
 
 -- one more value
 pub has_more : (cover : Cover) (table left value : ℕ) → HasFrom cover table left → 0 < left → value ≡ one (value_at cover (left - 1)) → HasFrom cover (table * 2 + value) (left - 1)
 has_more cover table left value has some is = (
-  (let within : left ≤ 64 = has.0 in omega arith),
-  (let within : left ≤ 64 = has.0 in
+  (let within : left ≤ 2 ^ cover.inputs = has.0 in omega arith),
+  (let within : left ≤ 2 ^ cover.inputs = has.0 in
       let v = value_at cover in
+      let size = 2 ^ cover.inputs in
       let place : left ≡ (left - 1) + 1 = omega arith in
-      let count : 64 - (left - 1) ≡ suc (64 - left) = omega arith in
-      let rest : packed (from_each v left (64 - left)) ≡ packed (from_each v ((left - 1) + 1) (64 - left)) = ap (λ (n : ℕ). packed (from_each v n (64 - left))) place in
-      let before : table ≡ packed (from_each v left (64 - left)) = has.1 in
-      let sum : table * 2 + value ≡ one (v (left - 1)) + 2 * packed (from_each v ((left - 1) + 1) (64 - left)) = omega arith in
+      let count : size - (left - 1) ≡ suc (size - left) = omega arith in
+      let rest : packed (from_each v left (size - left)) ≡ packed (from_each v ((left - 1) + 1) (size - left)) = ap (λ (n : ℕ). packed (from_each v n (size - left))) place in
+      let before : table ≡ packed (from_each v left (size - left)) = has.1 in
+      let sum : table * 2 + value ≡ one (v (left - 1)) + 2 * packed (from_each v ((left - 1) + 1) (size - left)) = omega arith in
       sum ∙ ap (λ (n : ℕ). packed (from_each v (left - 1) n)) (sym count)),
 )
 
-pub has_all : (cover : Cover) (table left : ℕ) → HasFrom cover table left → left ≡ 0 → IsTruthTable table cover
-has_all cover table left has none i h =
-    let v = value_at cover in
-    let all : table ≡ packed (from_each v 0 64) = has.1 ∙ ap (λ (n : ℕ). packed (from_each v n (64 - n))) none in
-    ap (λ (n : ℕ). is_set n i) all
-    ∙ packed_bit (from_each v 0 64) i
-    ∙ each_at v 0 64 i false h
-    ∙ ap v (omega arith)
+pub has_all : (cover : Cover) (table left : ℕ) → HasFrom cover table left → left ≡ 0 → HasValues cover cover.inputs table
+has_all cover table left has none =
+    let all : 2 ^ cover.inputs - 0 ≡ 2 ^ cover.inputs = omega arith in
+    has.1 ∙ ap (λ (n : ℕ). packed (from_each (value_at cover) n (2 ^ cover.inputs - n))) none ∙ ap (λ (n : ℕ). packed (from_each (value_at cover) 0 n)) all
+
+pub shift_small : (e : ℕ) → e < 6 → 1 * 2 ^ e % 4294967296 < 64
+shift_small zero few = omega arith
+shift_small (suc zero) few = omega arith
+shift_small (suc (suc zero)) few = omega arith
+shift_small (suc (suc (suc zero))) few = omega arith
+shift_small (suc (suc (suc (suc zero)))) few = omega arith
+shift_small (suc (suc (suc (suc (suc zero))))) few = omega arith
+shift_small (suc (suc (suc (suc (suc (suc e)))))) few = absurd (omega arith)
+
+-- twice as many bits have room
+pub room_again : (e bits : ℕ) → e < 6 → bits < 2 ^ (2 ^ e) → ((bits * 2 ^ ((1 * 2 ^ e) % 4294967296)) % 18446744073709551616 ≡ 2 ^ (2 ^ e) * bits) × (bits + 2 ^ (2 ^ e) * bits < 18446744073709551616)
+room_again zero bits few small = (omega arith, omega arith)
+room_again (suc zero) bits few small = (omega arith, omega arith)
+room_again (suc (suc zero)) bits few small = (omega arith, omega arith)
+room_again (suc (suc (suc zero))) bits few small = (omega arith, omega arith)
+room_again (suc (suc (suc (suc zero)))) bits few small = (omega arith, omega arith)
+room_again (suc (suc (suc (suc (suc zero))))) bits few small = (omega arith, omega arith)
+room_again (suc (suc (suc (suc (suc (suc e)))))) bits few small = absurd (omega arith)
 
 -- the number of the places that a small cover tells apart
 pub size_is : (n : ℕ) → n ≤ 6 → (1 * 2 ^ n) % 18446744073709551616 ≡ 2 ^ n
