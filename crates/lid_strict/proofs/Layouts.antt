@@ -1,7 +1,7 @@
 -- What is laid out runs in its order, and the rows of strict tables are those of its runs.
 use Rattle.std.proofs.Common.{◌≡◌, ◌<◌, ◌+◌, ℕ, zero, suc, Bool, List, [], ◌∷◌, ◌++◌, length, map, take, drop, Option, Some, slice_get, slice_index_or, option_to_list, option_map, inl, inr, refl, sym, ◌∙◌, ap, subst, arith}
 use Rattle.std.specs.List.{AllByRecursion, flat_map}
-use Rattle.std.proofs.lemmas.List.{length-map, take-append-drop}
+use Rattle.std.proofs.lemmas.List.{length-map, map-append, take-append-drop}
 use Rattle.std.proofs.lemmas.Option.{slice_get-get_or, slice_get-map, get_or_from_slice_get}
 use Rattle.lid_base.specs.Lists.{Among}
 use Rattle.lid_base.proofs.Lists.{among_left, among_right, among_flat, among_map, among_at, all_at}
@@ -32,6 +32,16 @@ pub laid_next : {B : Type 0} (g : ℕ → Driver ℕ → List B) (network : List
 laid_next g network order i h s same old new so_far pushed =
     let k = slice_index_or order i 0 in
     pushed_more (λ k. g k (driver_at network k)) order i h [] old new (g k s) (ap (g k) same) so_far pushed
+
+-- what of its latches
+pub latches_next : {B : Type 0} (f : FlatLatch → B) (network : List (Driver ℕ)) (order : List ℕ) (i : ℕ) → i < length order → (s : Driver ℕ) → s ≡ driver_at network (slice_index_or order i 0) → (old new : List B) → old ≡ map f (latches_in network (take i order)) → new ≡ old ++ map f (latches_of (slice_index_or order i 0) s) → new ≡ map f (latches_in network (take (i + 1) order))
+latches_next {B} f network order i h s same old new so_far pushed =
+    let latches = latches_in network (take i order) in
+    let more = latches_of (slice_index_or order i 0) s in
+    pushed
+    ∙ ap (λ (bs : List B). bs ++ map f more) so_far
+    ∙ sym (map-append f latches more)
+    ∙ ap (map f) (laid_next latches_of network order i h s same latches (latches ++ more) refl refl)
 
 driver_here : (drivers : List ColumnDriver) (k : ℕ) (driver : ColumnDriver) → k < length drivers → driver ≡ slice_index_or drivers k driver → slice_get drivers k ≡ Some driver
 driver_here drivers k driver h is = slice_get-get_or drivers k driver h ∙ ap Some (sym is)
@@ -72,7 +82,7 @@ module _ (rows : List (List Bool)) (b : Table ℕ) (t : ℕ) where
   all_inputs network [] each = refl
   all_inputs network (k ∷ order) each = has_inputs k (driver_at network k) (nets_in network order) (places_in network order) (each k (inl refl)) (all_inputs network order (λ j among. each j (inr among)))
 
-held_all : (b : Table ℕ) (t : ℕ) (latches : List FlatLatch) → AllByRecursion (λ l. b t l.out ≡ latch_bit b l.init l.input t) latches → map (b t) (map latch_out latches) ≡ held_bits latches b t
+held_all : (b : Table ℕ) (t : ℕ) (latches : List FlatLatch) → AllByRecursion (λ l. b t l.out ≡ latch_bit b l.init l.input t) latches → map (b t) (map latch_out latches) ≡ held_bits (map latch_init latches) (map latch_input latches) b t
 held_all b zero [] all = refl
 held_all b zero (l ∷ latches) all =
     let head : b 0 l.out ≡ l.init = all.0 in
@@ -165,7 +175,7 @@ module _ (network : List (Driver ℕ)) (order : List ℕ) (ordered : IsOrder (re
 
   module _ (p : Layout) (laid : IsLaidOut network order p) where
     base_is : base ≡ known_first p
-    base_is = ap (λ (ks : List ℕ). ks ++ (map latch_out (latches_in network order) ++ [])) (sym laid.ins) ∙ ap (λ (ls : List FlatLatch). p.ins.items ++ (map latch_out ls ++ [])) (sym laid.latches)
+    base_is = ap (λ (ks : List ℕ). ks ++ (map latch_out (latches_in network order) ++ [])) (sym laid.ins) ∙ ap (λ (ks : List ℕ). p.ins.items ++ (ks ++ [])) (sym laid.held)
 
     below_nets : {A : Type 0} (f : A → ℕ) (xs ys : List A) → xs ≡ ys → AllByRecursion (λ x. f x < length network) ys → AllByRecursion (λ x. f x < p.program.nets) xs
     below_nets {A} f xs ys same all =
@@ -178,12 +188,14 @@ module _ (network : List (Driver ℕ)) (order : List ℕ) (ordered : IsOrder (re
       ready = laid.ready;
       ins = below_nets (λ k. k) p.ins.items (nets_in network order) laid.ins
           (all_flat (λ k. k < length network) (λ k. input_nets k (driver_at network k)) order (λ k among. inputs_below (length network) k (driver_at network k) (order_below k among)));
-      held = all_map (λ k. k < p.program.nets) latch_out p.latches.items (below_nets latch_out p.latches.items (latches_in network order) laid.latches
+      held = below_nets (λ k. k) p.held.items (map latch_out (latches_in network order)) laid.held (all_map (λ k. k < length network) latch_out (latches_in network order)
           (all_flat (λ l. l.out < length network) (λ k. latches_of k (driver_at network k)) order (λ k among. held_below (length network) k (driver_at network k) (order_below k among))));
-      taken = all_map (λ k. k < p.program.nets) latch_input p.latches.items (below_nets latch_input p.latches.items (latches_in network order) laid.latches
+      taken = below_nets (λ k. k) p.taken.items (map latch_input (latches_in network order)) laid.taken (all_map (λ k. k < length network) latch_input (latches_in network order)
           (all_flat (λ l. l.input < length network) (λ k. latches_of k (driver_at network k)) order (λ k among. taken_below (length network) k (driver_at network k)
           (all_at (λ (s : Driver ℕ). AllByRecursion (λ a. a < length network) (read_before s)) network k (driver_at network k) below (slice_get-get_or network k (from_input 0) (order_below k among))))));
       pairs = ap length laid.places ∙ same_places network order ∙ sym (ap length laid.ins);
+      latches = ap length laid.taken ∙ length-map (latches_in network order) latch_input ∙ sym (length-map (latches_in network order) latch_out) ∙ sym (ap length laid.held);
+      begun = ap length laid.first ∙ length-map (latches_in network order) latch_init ∙ sym (length-map (latches_in network order) latch_out) ∙ sym (ap length laid.held);
       earlier = subst (ReadEarlier (known_first p)) (sym laid.covers) (subst (λ (ks : List ℕ). ReadEarlier ks (network_covers network order)) base_is earlier);
       all = λ k h. subst (λ (cs : List FlatCover). Among k (known_after (known_first p) cs)) (sym laid.covers)
           (subst (λ (ks : List ℕ). Among k (known_after ks (network_covers network order))) base_is (all_known k (subst (λ (n : ℕ). k < n) laid.nets h)));
@@ -194,8 +206,9 @@ module _ (network : List (Driver ℕ)) (order : List ℕ) (ordered : IsOrder (re
     strict_fits rows b strict t h = record {
       covers = subst (λ (cs : List FlatCover). IsRow cs (b t)) (sym laid.covers)
           (all_flat (λ c. b t c.out ≡ cover_value c.cover (map (b t) c.ins)) (λ k. driver_covers k (driver_at network k)) order (λ k among. has_cells rows b t k (driver_at network k) (value k among)));
-      latches = subst (λ (ls : List FlatLatch). map (b t) (map latch_out ls) ≡ held_bits ls b t) (sym laid.latches)
-          (held_all b t (latches_in network order) (all_flat (λ l. b t l.out ≡ latch_bit b l.init l.input t) (λ k. latches_of k (driver_at network k)) order (λ k among. has_latches rows b t k (driver_at network k) (value k among))));
+      latches = ap (map (b t)) laid.held ∙ (held_all b t (latches_in network order) (all_flat (λ l. b t l.out ≡ latch_bit b l.init l.input t) (λ k. latches_of k (driver_at network k)) order (λ k among. has_latches rows b t k (driver_at network k) (value k among))))
+          ∙ ap (λ (bs : List Bool). held_bits bs (map latch_input (latches_in network order)) b t) (sym laid.first)
+          ∙ ap (λ (ks : List ℕ). held_bits p.first.items ks b t) (sym laid.taken);
       inputs = ap (map (b t)) laid.ins ∙ all_inputs rows b t network order value ∙ ap (map (bit_at (slice_index_or rows t []))) (sym laid.places);
     }
       where

@@ -2,7 +2,6 @@
 use Rattle.std.proofs.Common.{◌≡◌, ◌<◌, ◌+◌, ℕ, zero, suc, Bool, List, [], ◌∷◌, ◌++◌, length, map, slice_index_or, refl, sym, ◌∙◌, ap, subst, arith, add-zero}
 use Rattle.std.specs.List.{AllByRecursion}
 use Rattle.lid_base.specs.Each.{from_each}
-use Rattle.lid_design.specs.Flat.{latch_input}
 use Rattle.lid_strict_engine.specs.Rows.{bit_at}
 use Rattle.lid_strict.specs.Networks.{rows_at}
 use Rattle.lid_strict.specs.Layouts.{held_bits, FitsRow, IsStrictRun}
@@ -22,9 +21,9 @@ map_agree f g n (x ∷ xs) below agree =
     let tail = map_agree f g n xs below.1 agree in
     cc
 
-pub runs_next : (p : Layout) (outs : List ℕ) (rows : List (List Bool)) (t : ℕ) (state state' bits row out : List Bool) (results : List (List Bool)) → AllByRecursion (λ k. k < p.program.nets) (map latch_input p.latches.items) → AllByRecursion (λ k. k < p.program.nets) outs → t < length rows → row ≡ slice_index_or rows t [] → IsStrictRun p outs rows t state results → state' ≡ map (bit_at bits) (map latch_input p.latches.items) → ((f : ℕ → Bool) → FitsRow p row state f → (k : ℕ) → k < p.program.nets → bit_at bits k ≡ f k) → out ≡ map (bit_at bits) outs → IsStrictRun p outs rows (t + 1) state' (results ++ out ∷ [])
+pub runs_next : (p : Layout) (outs : List ℕ) (rows : List (List Bool)) (t : ℕ) (state state' bits row out : List Bool) (results : List (List Bool)) → AllByRecursion (λ k. k < p.program.nets) p.taken.items → AllByRecursion (λ k. k < p.program.nets) outs → t < length rows → row ≡ slice_index_or rows t [] → IsStrictRun p outs rows t state results → state' ≡ map (bit_at bits) p.taken.items → ((f : ℕ → Bool) → FitsRow p row state f → (k : ℕ) → k < p.program.nets → bit_at bits k ≡ f k) → out ≡ map (bit_at bits) outs → IsStrictRun p outs rows (t + 1) state' (results ++ out ∷ [])
 runs_next p outs rows t state state' bits row out results taken below h same_row run goes right given b fits = (
-  goes ∙ map_agree (bit_at bits) (b t) p.program.nets (map latch_input p.latches.items) taken (right (b t) fit) ∙ ap (held_bits p.latches.items b) next,
+  goes ∙ map_agree (bit_at bits) (b t) p.program.nets p.taken.items taken (right (b t) fit) ∙ ap (held_bits p.first.items p.taken.items b) next,
   ap (λ (rs : List (List Bool)). rs ++ out ∷ []) (run b fits).1
       ∙ ap (λ (r : List Bool). rows_at outs b t ++ r ∷ []) (given ∙ map_agree (bit_at bits) (b t) p.program.nets outs below (right (b t) fit))
       ∙ sym (each_one_more (λ u. map (b u) outs) t),

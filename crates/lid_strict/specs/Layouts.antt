@@ -51,19 +51,23 @@ pub record IsLaidOut (network : List (Driver ℕ)) (order : List ℕ) (p : Layou
   pub covers : program_covers p.program ≡ network_covers network order
   pub ins : p.ins.items ≡ nets_in network order
   pub places : p.places.items ≡ places_in network order
-  pub latches : p.latches.items ≡ latches_in network order
+  pub held : p.held.items ≡ map latch_out (latches_in network order)
+  pub taken : p.taken.items ≡ map latch_input (latches_in network order)
+  pub first : p.first.items ≡ map latch_init (latches_in network order)
 
 -- what is known in a row before covers are run
 abbrev pub known_first : Layout → List ℕ
-known_first p = p.ins.items ++ (map latch_out p.latches.items ++ [])
+known_first p = p.ins.items ++ (p.held.items ++ [])
 
 -- each cover reads what is known when it is run, and all numbers are known in the end
 pub record IsRunnable (p : Layout) : Type 0 where
   pub ready : IsProgram p.program
   pub ins : AllByRecursion (λ k. k < p.program.nets) p.ins.items
-  pub held : AllByRecursion (λ k. k < p.program.nets) (map latch_out p.latches.items)
-  pub taken : AllByRecursion (λ k. k < p.program.nets) (map latch_input p.latches.items)
+  pub held : AllByRecursion (λ k. k < p.program.nets) p.held.items
+  pub taken : AllByRecursion (λ k. k < p.program.nets) p.taken.items
   pub pairs : length p.places.items ≡ length p.ins.items
+  pub latches : length p.taken.items ≡ length p.held.items
+  pub begun : length p.first.items ≡ length p.held.items
   pub earlier : ReadEarlier (known_first p) (program_covers p.program)
   pub all : (k : ℕ) → k < p.program.nets → Among k (known_after (known_first p) (program_covers p.program))
 
@@ -75,20 +79,20 @@ pub record IsEngineOf (p : Layout) (x : ByWidth) : Type 0 where
 
 -- the bits that latches hold in a row: first those that they begin with, later those of their inputs in
 -- the row before
-abbrev pub held_bits : List FlatLatch → Table ℕ → ℕ → List Bool
-held_bits latches b zero = map latch_init latches
-held_bits latches b (suc t) = map (b t) (map latch_input latches)
+abbrev pub held_bits : List Bool → List ℕ → Table ℕ → ℕ → List Bool
+held_bits first taken b zero = first
+held_bits first taken b (suc t) = map (b t) taken
 
 -- the bits of a row, from the input row and the bits that latches hold in it
 pub record FitsRow (p : Layout) (row state : List Bool) (bit : ℕ → Bool) : Type 0 where
   pub covers : IsRow (program_covers p.program) bit
-  pub latches : map bit (map latch_out p.latches.items) ≡ state
+  pub latches : map bit p.held.items ≡ state
   pub inputs : map bit p.ins.items ≡ map (bit_at row) p.places.items
 
 -- a table whose rows are those of a run
 abbrev pub FitsTable : Layout → List (List Bool) → Table ℕ → Type 0
-FitsTable p rows b = (t : ℕ) → t < length rows → FitsRow p (slice_index_or rows t []) (held_bits p.latches.items b t) (b t)
+FitsTable p rows b = (t : ℕ) → t < length rows → FitsRow p (slice_index_or rows t []) (held_bits p.first.items p.taken.items b t) (b t)
 
 -- what latches hold and the rows so far are those of each table that fits
 abbrev pub IsStrictRun : Layout → List ℕ → List (List Bool) → ℕ → List Bool → List (List Bool) → Type 0
-IsStrictRun p outs rows t state out = (b : Table ℕ) → FitsTable p rows b → (state ≡ held_bits p.latches.items b t) × (out ≡ rows_at outs b t)
+IsStrictRun p outs rows t state out = (b : Table ℕ) → FitsTable p rows b → (state ≡ held_bits p.first.items p.taken.items b t) × (out ≡ rows_at outs b t)

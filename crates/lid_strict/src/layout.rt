@@ -4,6 +4,7 @@
 ghost use Rattle.std.specs.Prelude.{◌≡◌, ◌<◌, ◌++◌, [], length, map, IfOk, OnOk};
 ghost use Rattle.std.specs.List.{AllByRecursion};
 ghost use Rattle.lid_design.specs.Feeds.{read_now};
+ghost use Rattle.lid_design.specs.Flat.{latch_out, latch_input, latch_init};
 ghost use Rattle.lid_check_digraph.specs.Graphs.{IsOrder};
 ghost use Rattle.lid_check_elab.specs.Covers.{no_cover};
 ghost use Rattle.lid_check_elab.specs.Elaborations.{shown_driver};
@@ -17,7 +18,7 @@ use lid_base::Items;
 use lid_check_elab::{ColumnDriver, cover_at};
 use lid_check_parts::buffer;
 use lid_cover::Cover;
-use lid_design::{Design, FlatLatch};
+use lid_design::Design;
 use lid_strict_engine::Program;
 use std::alloc::{AllocError, Global};
 
@@ -30,7 +31,10 @@ pub struct Layout {
     pub ins: Vec<u32>,
     /// The place of each of them among the inputs of the root.
     pub places: Vec<u32>,
-    pub latches: Vec<FlatLatch>,
+    /// The number of each latch, and beside it the number that it reads and the bit that it begins with.
+    pub held: Vec<u32>,
+    pub taken: Vec<u32>,
+    pub first: Vec<bool>,
 }
 
 /// Covers that no model has.
@@ -69,13 +73,17 @@ fn no_layout(alloc: Global, size: usize) -> Layout
     ensures covers { program_covers result.program ≡ [] }
     ensures ins { result.ins.items ≡ [] }
     ensures places { result.places.items ≡ [] }
-    ensures latches { result.latches.items ≡ [] }
+    ensures held { result.held.items ≡ [] }
+    ensures taken { result.taken.items ≡ [] }
+    ensures first { result.first.items ≡ [] }
 {
     Layout {
         program: Program::new(alloc, size),
         ins: Vec::new(alloc),
         places: Vec::new(alloc),
-        latches: Vec::new(alloc),
+        held: Vec::new(alloc),
+        taken: Vec::new(alloc),
+        first: Vec::new(alloc),
     }
 }
 
@@ -115,18 +123,20 @@ fn push_driver(
         ++ driver_covers number (shown_driver design.now driver.now)) }
     ensures ins { OnOk result (layout.new.ins.items ≡ layout.old.ins.items ++ input_nets number (shown_driver design.now driver.now)) }
     ensures places { OnOk result (layout.new.places.items ≡ layout.old.places.items ++ input_places (shown_driver design.now driver.now)) }
-    ensures latches { OnOk result (layout.new.latches.items ≡ layout.old.latches.items ++ latches_of number (shown_driver design.now driver.now)) }
+    ensures held { OnOk result (layout.new.held.items ≡ layout.old.held.items ++ map latch_out (latches_of number (shown_driver design.now driver.now))) }
+    ensures taken { OnOk result (layout.new.taken.items ≡ layout.old.taken.items ++ map latch_input (latches_of number (shown_driver design.now driver.now))) }
+    ensures first { OnOk result (layout.new.first.items ≡ layout.old.first.items ++ map latch_init (latches_of number (shown_driver design.now driver.now))) }
 {
     match driver {
         ColumnDriver::Input(place) => {
             layout.ins.push(number)?;
             layout.places.push(*place)?;
         }
-        ColumnDriver::Latch { first, input } => layout.latches.push(FlatLatch {
-            input: *input,
-            out: number,
-            init: *first,
-        })?,
+        ColumnDriver::Latch { first, input } => {
+            layout.held.push(number)?;
+            layout.taken.push(*input)?;
+            layout.first.push(*first)?;
+        }
         ColumnDriver::Cover {
             model,
             cell,

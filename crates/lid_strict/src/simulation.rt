@@ -3,7 +3,6 @@
 ghost use Rattle.std.specs.Prelude.{◌≡◌, ◌+◌, ◌<◌, ℕ, Bool, List, [], length, map, slice_index_or, IfOk, OnOk};
 ghost use Rattle.std.specs.List.{AllByRecursion};
 ghost use Rattle.lid_design.specs.Network.{Table, IsStrict};
-ghost use Rattle.lid_design.specs.Flat.{latch_init, latch_input};
 ghost use Rattle.lid_check_digraph.specs.Graphs.{IsOrder};
 ghost use Rattle.lid_check_elab.specs.Elaborations.{shown_driver};
 ghost use Rattle.lid_strict_engine.specs.Programs.{IsProgram};
@@ -16,7 +15,7 @@ use crate::layout::{Layout, lay_out};
 use crate::source::RowSource;
 use lid_check_elab::ColumnDriver;
 use lid_design::Design;
-use lid_strict_engine::{first_state, put_bits, put_state, take_state};
+use lid_strict_engine::{copy_of, put_bits, take_bits};
 use lid_strict_widths::{ByWidth, by_level, by_width, settle_by_width};
 use lid_texts_packed::PackedRows;
 use std::alloc::{AllocError, Global};
@@ -72,19 +71,18 @@ fn run_row(
     requires runnable { IsRunnable layout.now }
     requires engine { IsEngineOf layout.now engine.now }
     requires inputs { length inputs.now ≡ length layout.now.places.items }
-    requires state { length state.old ≡ length layout.now.latches.items }
+    requires state { length state.old ≡ length layout.now.held.items }
     requires bits { length bits.old ≡ layout.now.program.nets }
-    ensures state_size { length state.new ≡ length layout.now.latches.items }
+    ensures state_size { length state.new ≡ length layout.now.held.items }
     ensures bits_size { length bits.new ≡ layout.now.program.nets }
-    ensures state { state.new ≡ map (bit_at bits.new) (map latch_input layout.now.latches.items) }
+    ensures state { state.new ≡ map (bit_at bits.new) layout.now.taken.items }
     ensures bits { (row : List Bool) (f : ℕ → Bool) → inputs.now ≡ map (bit_at row) layout.now.places.items → FitsRow layout.now row state.old f
         → (k : ℕ) → k < layout.now.program.nets → bit_at bits.new k ≡ f k }
 {
-    let latches = layout.latches.as_slice();
-    put_state(bits, latches, state);
+    put_bits(bits, layout.held.as_slice(), state);
     put_bits(bits, layout.ins.as_slice(), inputs);
     settle_by_width(engine, bits);
-    take_state(bits, latches, state);
+    take_bits(bits, layout.taken.as_slice(), state);
 }
 
 /// What is run: a network that is laid out, its program as it is run, the numbers whose bits are asked for, and the rows.
@@ -154,7 +152,7 @@ fn run_layout<R: RowSource>(
     ensures { OnOk result ((b : Table ℕ) → FitsTable run.now.layout.now (R.rows run.now.rows.now) b
         → results.new.rows ≡ rows_at run.now.outs.now b (length (R.rows run.now.rows.now))) }
 {
-    let mut state = first_state(alloc, run.layout.latches.as_slice())?;
+    let mut state = copy_of(alloc, run.layout.first.as_slice())?;
     let mut inputs = Vec::from_elem(alloc, false, run.layout.places.len())?;
     let mut bits = Vec::from_elem(alloc, false, run.layout.program.nets)?;
     let mut out = Vec::from_elem(alloc, false, run.outs.len())?;
@@ -181,7 +179,7 @@ fn run_rows<R: RowSource>(
     requires runnable { IsRunnable run.now.layout.now }
     requires engine { IsEngineOf run.now.layout.now run.now.engine.now }
     requires outs { AllByRecursion (λ k. k < run.now.layout.now.program.nets) run.now.outs.now }
-    requires state { state.old ≡ map latch_init run.now.layout.now.latches.items }
+    requires state { state.old ≡ run.now.layout.now.first.items }
     requires inputs { length inputs.old ≡ length run.now.layout.now.places.items }
     requires bits { length bits.old ≡ run.now.layout.now.program.nets }
     requires out { length out.old ≡ length run.now.outs.now }

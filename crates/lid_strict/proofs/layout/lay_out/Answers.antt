@@ -2,11 +2,12 @@ use Rattle.std.proofs.Common.{◌<◌, ℕ, map, slice_index_or, sym, ◌∙◌,
 use Rattle.std.specs.List.{AllByRecursion}
 use Rattle.lid_base.proofs.Lists.{all_at}
 use Rattle.lid_design.specs.Feeds.{read_now}
+use Rattle.lid_design.specs.Flat.{latch_out, latch_input, latch_init}
 use Rattle.lid_check_elab.specs.Elaborations.{shown_driver}
 use Rattle.lid_check_parts.specs.Parts.{HasCover}
-use Rattle.lid_check_parts.specs.Inner.{latches_of, driver_covers}
+use Rattle.lid_check_parts.specs.Inner.{driver_covers}
 use Rattle.lid_strict.specs.Layouts.{input_nets, input_places}
-use Rattle.lid_strict.proofs.Layouts.{laid_next, number_below, driver_there, driver_same, reads_within}
+use Rattle.lid_strict.proofs.Layouts.{laid_next, latches_next, number_below, driver_there, driver_same, reads_within}
 use Rattle.lid_strict.proofs.layout.lay_out.Goals as goal
 
 pub bounds-drivers-number : goal.bounds-drivers-number
@@ -43,5 +44,7 @@ loop-number-preserved c =
       laid_next driver_covers network c.args.order.now i h s same _ _ so_far.2 new.covers,
       laid_next input_nets network c.args.order.now i h s same _ _ so_far.3 new.ins,
       laid_next (λ k r. input_places r) network c.args.order.now i h s same _ _ so_far.4 new.places,
-      laid_next latches_of network c.args.order.now i h s same _ _ so_far.5 new.latches,
+      latches_next latch_out network c.args.order.now i h s same _ _ so_far.5 new.held,
+      latches_next latch_input network c.args.order.now i h s same _ _ so_far.6 new.taken,
+      latches_next latch_init network c.args.order.now i h s same _ _ so_far.7 new.first,
     )

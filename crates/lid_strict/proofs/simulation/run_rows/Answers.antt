@@ -1,6 +1,5 @@
 use Rattle.std.proofs.Common.{◌≡◌, [], ◌+◌, ◌<◌, Bool, List, length, map, get_or, refl, sym, ◌∙◌, ap, subst, arith}
 use Rattle.std.proofs.lemmas.List.{length-map}
-use Rattle.lid_design.specs.Flat.{latch_init}
 use Rattle.lid_strict_engine.specs.Rows.{bit_at}
 use Rattle.lid_texts_packed.specs.Rows.{WideRows}
 use Rattle.lid_strict.specs.Networks.{rows_at}
@@ -9,15 +8,14 @@ use Rattle.lid_strict.proofs.Running.{runs_next}
 use Rattle.lid_strict.proofs.simulation.run_rows.Goals as goal
 
 pub loop-t-init : goal.loop-t-init
-loop-t-init g c =
-    let latches = c.args.run.now.layout.now.latches.items in (
-      ap (λ (bs : List Bool). length bs) c.requires.state ∙ length-map latches latch_init,
-      c.requires.inputs,
-      c.requires.bits,
-      c.requires.out,
-      ap (λ (v : WideRows). v.width) c.requires.none,
-      λ b fits. (c.requires.state, ap (λ (v : WideRows). v.rows) c.requires.none),
-    )
+loop-t-init g c = (
+  ap (λ (bs : List Bool). length bs) c.requires.state ∙ c.requires.runnable.begun,
+  c.requires.inputs,
+  c.requires.bits,
+  c.requires.out,
+  ap (λ (v : WideRows). v.width) c.requires.none,
+  λ b fits. (c.requires.state, ap (λ (v : WideRows). v.rows) c.requires.none),
+)
 
 pub loop-t-preserved : goal.loop-t-preserved
 loop-t-preserved g c =

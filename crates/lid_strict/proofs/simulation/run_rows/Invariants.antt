@@ -4,7 +4,7 @@ use Rattle.lid_strict.proofs.simulation.run_rows.Given as goal
 
 abbrev pub invariant-loop-t : goal.invariant-loop-t
 invariant-loop-t g l =
-    (length l.state ≡ length l.run.layout.now.latches.items)
+    (length l.state ≡ length l.run.layout.now.held.items)
     × (length l.inputs ≡ length l.run.layout.now.places.items)
     × (length l.bits ≡ l.run.layout.now.program.nets)
     × (length l.out ≡ length l.run.outs.now)
