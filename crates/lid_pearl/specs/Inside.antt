@@ -39,6 +39,11 @@ pub record IsOrdered (nets : ℕ) (ins outs : List ℕ) (latches : List FlatLatc
   pub outs_early : AllByRecursion (λ k. Among k (known_after (held latches) (program_covers early))) outs
   pub taken_known : AllByRecursion (λ k. Among k (known_after (ins ++ known_after (held latches) (program_covers early)) (program_covers late))) (map latch_input latches)
 
+-- the nets that latches give, and those that they read, latch by latch
+pub record AreLatchNets (latches : List FlatLatch) (outs inputs : List ℕ) : Type 0 where
+  pub given : outs ≡ held latches
+  pub read : inputs ≡ map latch_input latches
+
 -- bits that are right at early nets in each row that has the latches' bits
 abbrev pub AreSettled : List FlatLatch → Program → List Bool → List Bool → Type 0
 AreSettled latches early state bits =

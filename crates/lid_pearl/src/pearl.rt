@@ -2,18 +2,27 @@
 
 ghost use Rattle.std.specs.Prelude.{◌≡◌, ◌<◌, ◌+◌, ◌++◌, ℕ, Bool, List, length, map, IfOk};
 ghost use Rattle.std.specs.List.{AllByRecursion};
+ghost use Rattle.lid_design.specs.declared.FlatLatch.{FlatLatch};
 ghost use Rattle.lid_design.specs.Flat.{latch_init, latch_input, IsFlat, IsRow, ReadEarlier};
 ghost use Rattle.lid_strict_engine.specs.Programs.{program_covers};
 ghost use Rattle.lid_strict_widths.specs.Groups.{IsByWidth};
 ghost use Rattle.lid_pearl.specs.Pearls.{IsSplit};
-ghost use Rattle.lid_pearl.specs.Inside.{held, AreSettled, IsOrdered, ArePearlFields};
+ghost use Rattle.lid_pearl.specs.Inside.{held, AreLatchNets, AreSettled, IsOrdered, ArePearlFields};
 
 use crate::split::{find_marks, lay_out};
 use lid_design::{Flat, FlatLatch};
-use lid_strict_engine::{copy_of, first_state, put_bits, put_state, take_bits, take_state};
+use lid_strict_engine::{copy_of, first_state, put_bits, take_bits};
 use lid_strict_widths::{ByWidth, settle_by_width};
 use std::alloc::{AllocError, Global};
 use std::marker::Model;
+
+/// The latches of a pearl, and beside them what a row goes through: the nets that they give, and those that they read.
+#[derive(Drop)]
+struct Latches {
+    all: Vec<FlatLatch>,
+    outs: Vec<u32>,
+    inputs: Vec<u32>,
+}
 
 /// The nets of a pearl: how many there are, those of its inputs and outputs, and its latches.
 #[derive(Drop)]
@@ -21,7 +30,7 @@ struct Shape {
     nets: u32,
     ins: Vec<u32>,
     outs: Vec<u32>,
-    latches: Vec<FlatLatch>,
+    latches: Latches,
 }
 
 /// The covers of a pearl, by level and width. No input leads to the early ones, which are run for the state alone.
@@ -50,7 +59,7 @@ impl Model for Pearl {
     ghost use Rattle.std.specs.Prelude.{◌++◌};
     ghost use Rattle.lid_strict_engine.specs.Programs.{program_covers};
     ghost use Rattle.lid_pearl.specs.Pearls.{View};
-    ghost use Rattle.lid_pearl.specs.Inside.{ArePearlFields};
+    ghost use Rattle.lid_pearl.specs.Inside.{AreLatchNets, ArePearlFields};
 
     ghost Value = { View };
 
@@ -59,13 +68,14 @@ impl Model for Pearl {
         nets = p.shape.nets;
         ins = p.shape.ins.items;
         outs = p.shape.outs.items;
-        latches = p.shape.latches.items;
+        latches = p.shape.latches.all.items;
         covers = program_covers p.plan.early.program ++ program_covers p.plan.late.program;
       };
       state = p.row.state.items;
     } };
 
-    ghost invariant = { λ p. ArePearlFields p.shape.nets p.shape.ins.items p.shape.outs.items p.shape.latches.items p.plan.early p.plan.late
+    ghost invariant = { λ p. AreLatchNets p.shape.latches.all.items p.shape.latches.outs.items p.shape.latches.inputs.items
+        × ArePearlFields p.shape.nets p.shape.ins.items p.shape.outs.items p.shape.latches.all.items p.plan.early p.plan.late
         p.row.state.items p.row.bits.items };
 }
 
@@ -88,7 +98,7 @@ impl Pearl {
             flat.latches.as_slice(),
         )?;
         let plan = plan_of(alloc, flat)?;
-        let row = first_row(alloc, flat, &plan.early)?;
+        let row = first_row(alloc, flat, shape.latches.outs.as_slice(), &plan.early)?;
         Ok(Pearl { shape, plan, row })
     }
 
@@ -101,7 +111,7 @@ impl Pearl {
             self.shape.nets,
             self.shape.ins.as_slice(),
             self.shape.outs.as_slice(),
-            self.shape.latches.as_slice(),
+            self.shape.latches.all.as_slice(),
         )?;
         let plan = copy_plan(&self.plan)?;
         let row = copy_row(&self.row)?;
@@ -140,17 +150,17 @@ impl Pearl {
     }
 }
 
-/// Gives early nets the bits of a state.
-fn settle_state(latches: &[FlatLatch], early: &ByWidth, state: &[bool], bits: &mut [bool])
+/// Gives early nets the bits of a state, by the nets that latches give.
+fn settle_state(outs: &[u32], early: &ByWidth, state: &[bool], bits: &mut [bool])
     requires is { IsByWidth early.now }
-    requires below { AllByRecursion (λ k. k < early.now.program.nets) (held latches.now) }
-    requires reads { ReadEarlier (held latches.now) (program_covers early.now.program) }
-    requires long { length state.now ≡ length latches.now }
+    requires below { AllByRecursion (λ k. k < early.now.program.nets) outs.now }
+    requires reads { ReadEarlier outs.now (program_covers early.now.program) }
+    requires long { length state.now ≡ length outs.now }
     requires size { length bits.old ≡ early.now.program.nets }
     ensures size { length bits.new ≡ length bits.old }
-    ensures settled { AreSettled latches.now early.now.program state.now bits.new }
+    ensures settled { (latches : List FlatLatch) → outs.now ≡ held latches → AreSettled latches early.now.program state.now bits.new }
 {
-    put_state(bits, latches, state);
+    put_bits(bits, outs, state);
     settle_by_width(early, bits);
 }
 
@@ -163,23 +173,23 @@ fn run(
     inputs: &[bool],
     into: &mut [bool],
 )
-    requires kept { ArePearlFields shape.now.nets shape.now.ins.items shape.now.outs.items shape.now.latches.items plan.now.early plan.now.late
+    requires latches { AreLatchNets shape.now.latches.all.items shape.now.latches.outs.items shape.now.latches.inputs.items }
+    requires kept { ArePearlFields shape.now.nets shape.now.ins.items shape.now.outs.items shape.now.latches.all.items plan.now.early plan.now.late
         state.old bits.old }
     requires inputs { length inputs.now ≡ length shape.now.ins.items }
     requires outs { length into.old ≡ length shape.now.outs.items }
-    ensures kept { ArePearlFields shape.now.nets shape.now.ins.items shape.now.outs.items shape.now.latches.items plan.now.early plan.now.late
+    ensures kept { ArePearlFields shape.now.nets shape.now.ins.items shape.now.outs.items shape.now.latches.all.items plan.now.early plan.now.late
         state.new bits.new }
     ensures state { (f : ℕ → Bool) → IsRow (program_covers plan.now.early.program) f → IsRow (program_covers plan.now.late.program) f
-        → map f (held shape.now.latches.items) ≡ state.old → map f shape.now.ins.items ≡ inputs.now
-        → state.new ≡ map f (map latch_input shape.now.latches.items) }
-    ensures outs { (f : ℕ → Bool) → IsRow (program_covers plan.now.early.program) f → map f (held shape.now.latches.items) ≡ state.new
+        → map f (held shape.now.latches.all.items) ≡ state.old → map f shape.now.ins.items ≡ inputs.now
+        → state.new ≡ map f (map latch_input shape.now.latches.all.items) }
+    ensures outs { (f : ℕ → Bool) → IsRow (program_covers plan.now.early.program) f → map f (held shape.now.latches.all.items) ≡ state.new
         → into.new ≡ map f shape.now.outs.items }
 {
-    let latches = shape.latches.as_slice();
     put_bits(bits, shape.ins.as_slice(), inputs);
     settle_by_width(&plan.late, bits);
-    take_state(bits, latches, state);
-    settle_state(latches, &plan.early, state, bits);
+    take_bits(bits, shape.latches.inputs.as_slice(), state);
+    settle_state(shape.latches.outs.as_slice(), &plan.early, state, bits);
     take_bits(bits, shape.outs.as_slice(), into);
 }
 
@@ -194,17 +204,51 @@ fn shape_of(
     ensures nets { IfOk result (λ shape. shape.nets ≡ nets) }
     ensures ins { IfOk result (λ shape. shape.ins.items ≡ ins.now) }
     ensures outs { IfOk result (λ shape. shape.outs.items ≡ outs.now) }
-    ensures latches { IfOk result (λ shape. shape.latches.items ≡ latches.now) }
+    ensures latches { IfOk result (λ shape. shape.latches.all.items ≡ latches.now) }
+    ensures sides { IfOk result (λ shape. AreLatchNets shape.latches.all.items shape.latches.outs.items shape.latches.inputs.items) }
 {
     let ins = copy_of(alloc, ins)?;
     let outs = copy_of(alloc, outs)?;
-    let latches = copy_of(alloc, latches)?;
+    let latches = latches_of(alloc, latches)?;
     Ok(Shape {
         nets,
         ins,
         outs,
         latches,
     })
+}
+
+/// Some latches, with the nets that they give and read.
+fn latches_of(alloc: Global, latches: &[FlatLatch]) -> Result<Latches, AllocError>
+    ensures all { IfOk result (λ made. made.all.items ≡ latches.now) }
+    ensures sides { IfOk result (λ made. AreLatchNets made.all.items made.outs.items made.inputs.items) }
+{
+    let all = copy_of(alloc, latches)?;
+    let outs = outs_of(alloc, latches)?;
+    let inputs = inputs_of(alloc, latches)?;
+    Ok(Latches { all, outs, inputs })
+}
+
+/// The nets that latches give.
+fn outs_of(alloc: Global, latches: &[FlatLatch]) -> Result<Vec<u32>, AllocError>
+    ensures { IfOk result (λ outs. outs.items ≡ held latches.now) }
+{
+    let mut outs = Vec::with_capacity(alloc, latches.len())?;
+    for latch in latches {
+        outs.push(latch.out)?;
+    }
+    Ok(outs)
+}
+
+/// The nets that latches read.
+fn inputs_of(alloc: Global, latches: &[FlatLatch]) -> Result<Vec<u32>, AllocError>
+    ensures { IfOk result (λ inputs. inputs.items ≡ map latch_input latches.now) }
+{
+    let mut inputs = Vec::with_capacity(alloc, latches.len())?;
+    for latch in latches {
+        inputs.push(latch.input)?;
+    }
+    Ok(inputs)
 }
 
 /// The covers of a flat part, early and late ones, by level and width.
@@ -223,7 +267,8 @@ fn plan_of(alloc: Global, flat: &Flat) -> Result<Plan, AllocError>
 }
 
 /// The bits of a flat part as it begins.
-fn first_row(alloc: Global, flat: &Flat, early: &ByWidth) -> Result<Row, AllocError>
+fn first_row(alloc: Global, flat: &Flat, outs: &[u32], early: &ByWidth) -> Result<Row, AllocError>
+    requires outs { outs.now ≡ held flat.now.latches }
     requires nets { early.now.program.nets ≡ flat.now.nets }
     requires is { IsByWidth early.now }
     requires rules { IsFlat flat.now }
@@ -232,10 +277,9 @@ fn first_row(alloc: Global, flat: &Flat, early: &ByWidth) -> Result<Row, AllocEr
     ensures size { IfOk result (λ row. length row.bits.items ≡ flat.now.nets) }
     ensures settled { IfOk result (λ row. AreSettled flat.now.latches early.now.program row.state.items row.bits.items) }
 {
-    let latches = flat.latches.as_slice();
-    let state = first_state(alloc, latches)?;
+    let state = first_state(alloc, flat.latches.as_slice())?;
     let mut bits = Vec::from_elem(alloc, false, flat.nets as usize)?;
-    settle_state(latches, early, state.as_slice(), bits.as_mut_slice());
+    settle_state(outs, early, state.as_slice(), bits.as_mut_slice());
     Ok(Row { state, bits })
 }
 
