@@ -7,4 +7,4 @@ mod row;
 mod truth;
 
 pub use program::{Program, ProgramStep, Span, copy_of};
-pub use row::{first_state, put_bits, put_state, take_bits, take_state};
+pub use row::{first_state, put_bits, take_bits};

@@ -2,7 +2,7 @@
 
 ghost use Rattle.std.specs.Prelude.{◌≡◌, ◌<◌, ◌++◌, ℕ, Bool, List, length, map, IfOk};
 ghost use Rattle.std.specs.List.{AllByRecursion};
-ghost use Rattle.lid_design.specs.Flat.{latch_out, latch_input, latch_init};
+ghost use Rattle.lid_design.specs.Flat.{latch_init};
 ghost use Rattle.lid_strict_engine.specs.Rows.{bit_at, AreRightAt};
 
 use lid_design::FlatLatch;
@@ -31,19 +31,6 @@ pub fn first_state(alloc: Global, latches: &[FlatLatch]) -> Result<Vec<bool>, Al
     Ok(state)
 }
 
-/// Gives the outputs of latches their bits, in order. What was right stays right.
-pub fn put_state(bits: &mut [bool], latches: &[FlatLatch], state: &[bool])
-    requires below { AllByRecursion (λ k. k < length bits.old) (map latch_out latches.now) }
-    requires long { length state.now ≡ length latches.now }
-    ensures size { length bits.new ≡ length bits.old }
-    ensures bits { (f : ℕ → Bool) (known : List ℕ) → map f (map latch_out latches.now) ≡ state.now → AreRightAt f known bits.old
-        → AreRightAt f (map latch_out latches.now ++ known) bits.new }
-{
-    for i in 0..latches.len() {
-        bits[latches[i].out as usize] = state[i];
-    }
-}
-
 /// Writes the bits of some nets, in order.
 pub fn take_bits(bits: &[bool], nets: &[u32], into: &mut [bool])
     requires below { AllByRecursion (λ k. k < length bits.now) nets.now }
@@ -52,16 +39,5 @@ pub fn take_bits(bits: &[bool], nets: &[u32], into: &mut [bool])
 {
     for i in 0..nets.len() {
         into[i] = bits[nets[i] as usize];
-    }
-}
-
-/// Writes the bits that latches read, in order.
-pub fn take_state(bits: &[bool], latches: &[FlatLatch], state: &mut [bool])
-    requires below { AllByRecursion (λ k. k < length bits.now) (map latch_input latches.now) }
-    requires long { length state.old ≡ length latches.now }
-    ensures { state.new ≡ map (bit_at bits.now) (map latch_input latches.now) }
-{
-    for i in 0..latches.len() {
-        state[i] = bits[latches[i].input as usize];
     }
 }

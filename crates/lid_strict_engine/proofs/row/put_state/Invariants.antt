@@ -1,9 +1,0 @@
-use Rattle.std.proofs.Common.{◌≡◌, ◌++◌, ℕ, Bool, List, length, map, take}
-use Rattle.lid_design.specs.Flat.{latch_out}
-use Rattle.lid_strict_engine.specs.Rows.{AreRightAt}
-use Rattle.lid_strict_engine.proofs.row.put_state.Given as goal
-
-abbrev pub invariant-loop-i : goal.invariant-loop-i
-invariant-loop-i l =
-    (length l.bits ≡ length l.fn.bits)
-    × ((f : ℕ → Bool) (known : List ℕ) → map f (map latch_out l.latches) ≡ l.state → AreRightAt f known l.fn.bits → AreRightAt f (take l.i (map latch_out l.latches) ++ known) l.bits)
