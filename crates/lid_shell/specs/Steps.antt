@@ -1,7 +1,7 @@
 -- What a step of an actor does to it and to the board.
 use Rattle.std.specs.Prelude.{◌≡◌, ℕ, ◌+◌, ◌<◌, ◌≤◌, ◌⊎◌, ◌==◌, Bool, true, false, if◌then◌else◌, List, ◌++◌, length, Option, Some, None, option_map, slice_get}
 use Rattle.lid_base.specs.declared.runs.Answer.{Answer}
-use Rattle.lid_base.specs.declared.runs.Answer.TheVariants.{Void, Stop}
+use Rattle.lid_base.specs.declared.runs.Answer.TheVariants.{Token, Void, Room, Stop, Took, Put, Fired, Done}
 use Rattle.lid_station.specs.Boards.{Facts, Ends, fill, drain, noted}
 use Rattle.lid_walk_machine.specs.Plans.{cap, stream}
 use Rattle.lid_walk_machine.specs.Setups.{plan}
@@ -56,6 +56,23 @@ misses_after (Some at) end misses = if end == at then option_map (λ n. n + 1) m
 abbrev pub IsOwn : List ℕ → List ℕ → ℕ → Type 0
 IsOwn ins outs end =
     (station : ℕ) × (i : ℕ) × (((slice_get ins i ≡ Some station) × (end ≡ drain station)) ⊎ ((slice_get outs i ≡ Some station) × (end ≡ fill station)))
+
+-- the end at which the step that is so answered was made: a look, a take or a put. None was made where an actor without
+-- stations fired, and at the cap
+abbrev pub made_end : Answer → Option ℕ
+made_end (Token station token) = Some (drain station)
+made_end (Void station told) = Some (drain station)
+made_end (Room station) = Some (fill station)
+made_end (Stop station told) = Some (fill station)
+made_end (Took station token fired) = Some (drain station)
+made_end (Put station token fired) = Some (fill station)
+made_end Fired = None
+made_end Done = None
+
+-- one step was noted at this end and no other one, where steps are noted; where there is no end, none was
+abbrev pub NotesStep : Option ℕ → Option (List ℕ) → Option (List ℕ) → Type 0
+NotesStep None old new = new ≡ old
+NotesStep (Some end) old new = new ≡ noted end old
 
 -- one step was noted, where steps are noted: at an end of these stations
 abbrev pub NotesOne : List ℕ → List ℕ → Option (List ℕ) → Option (List ℕ) → Type 0

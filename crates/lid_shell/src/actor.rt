@@ -13,7 +13,7 @@ ghost use Rattle.lid_walk_machine.specs.Machine.{Progress, State, turn, turn_ans
 ghost use Rattle.lid_shell.specs.Boards.{ServesAll};
 ghost use Rattle.lid_shell.specs.Parts.{IsSinkRole, AreColumnsAtSink};
 ghost use Rattle.lid_shell.specs.Actors.{IsActor};
-ghost use Rattle.lid_shell.specs.Steps.{Works, CanStep, CanTurn, MakesStep, IsExact, missed_end, Moves, NotesOwn, MissesLate};
+ghost use Rattle.lid_shell.specs.Steps.{Works, CanStep, CanTurn, MakesStep, IsExact, missed_end, made_end, Moves, NotesStep, NotesOwn, MissesLate};
 ghost use Rattle.lid_shell.specs.Turns.{answer_at, Turned};
 ghost use Rattle.lid_shell.specs.TurnEnds.{end_at};
 ghost use Rattle.lid_shell.specs.declared.turn.TurnEnd.TheVariants as end;
@@ -147,8 +147,8 @@ impl<'r> Actor<'r> {
     /// Makes one step at a board, which serves the actor's ends in agreement with how far it is. At its cap it answers
     /// `Done`, and nothing changes. A look answers what it finds; where it finds nothing, the actor goes back to the
     /// first position, and that is one miss, where the board counts misses. The last take or put of a firing tells
-    /// that the actor has fired; an actor without stations fires in one step. Each step but these two is noted once, at
-    /// an end of the actor, where the board notes steps.
+    /// that the actor has fired; an actor without stations fires in one step. Each step but these two is noted exactly
+    /// once, at the end of the actor that the answer tells, where the board notes steps; these two are not noted.
     pub fn step<B: Stations>(&mut self, board: &mut B) -> Answer
         requires can { CanStep self.old (B.ends board.old) (B.stands board.old) }
         ensures steps { (m : Setup) (v : ℕ) (q : Progress) → Works m v q self.old (B.ends board.old) (B.stands board.old)
@@ -157,6 +157,7 @@ impl<'r> Actor<'r> {
             → ServesAll m st v (B.ends board.old) → IsExact m st v result }
         ensures moves { Moves self.old.desk.ins.items self.old.desk.outs.items (missed_end result) (B.ends board.old) (B.ends board.new) }
         ensures notes { NotesOwn self.old (B.steps board.old) (B.steps board.new) }
+        ensures noted { NotesStep (made_end result) (B.steps board.old) (B.steps board.new) }
         ensures late { MissesLate (B.ends board.old) result }
         ensures done { result ≡ answer.Done → (self.new ≡ self.old) × (board.new ≡ board.old) }
         ensures same { B.identity board.new ≡ B.identity board.old }

@@ -5,7 +5,7 @@ ghost use Rattle.lid_walk_machine.specs.Setups.{plan};
 ghost use Rattle.lid_shell_laws.specs.Setups.{Setup};
 ghost use Rattle.lid_walk_machine.specs.Machine.{Progress};
 ghost use Rattle.lid_shell.specs.declared.desk.Next.TheVariants.{Take, Put, Fire};
-ghost use Rattle.lid_shell.specs.Steps.{Moves, NotesOne};
+ghost use Rattle.lid_shell.specs.Steps.{made_end, Moves, NotesStep, NotesOne};
 ghost use Rattle.lid_shell.specs.Inside.{IsToMake, CanMake, HasMade, IsGoing, IsAbout, IsAtEnd, CanClose, HasClosed, CanFinish, HasFinished, CanReady, HasTokensReady, CanGoAt, MakesNext, CanFire, Fires};
 
 use crate::actor::Actor;
@@ -69,6 +69,7 @@ impl Actor<'_> {
         ensures goes { MakesNext (Take i) self.old (B.ends board.old) (B.stands board.old) result self.new (B.ends board.new) (B.stands board.new) }
         ensures moves { Moves self.old.desk.ins.items self.old.desk.outs.items None (B.ends board.old) (B.ends board.new) }
         ensures notes { NotesOne self.old.desk.ins.items self.old.desk.outs.items (B.steps board.old) (B.steps board.new) }
+        ensures noted { NotesStep (made_end result) (B.steps board.old) (B.steps board.new) }
         ensures same { B.identity board.new ≡ B.identity board.old }
     {
         let station = self.desk.ins.as_slice()[i];
@@ -87,6 +88,7 @@ impl Actor<'_> {
         ensures goes { MakesNext (Put j) self.old (B.ends board.old) (B.stands board.old) result self.new (B.ends board.new) (B.stands board.new) }
         ensures moves { Moves self.old.desk.ins.items self.old.desk.outs.items None (B.ends board.old) (B.ends board.new) }
         ensures notes { NotesOne self.old.desk.ins.items self.old.desk.outs.items (B.steps board.old) (B.steps board.new) }
+        ensures noted { NotesStep (made_end result) (B.steps board.old) (B.steps board.new) }
         ensures same { B.identity board.new ≡ B.identity board.old }
     {
         self.make_ready(j);

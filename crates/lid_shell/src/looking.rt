@@ -3,7 +3,7 @@
 ghost use Rattle.std.specs.Prelude.{◌≡◌, ◌+◌, ℕ};
 ghost use Rattle.lid_shell.specs.declared.desk.Next.TheVariants.{LookIn, LookOut};
 ghost use Rattle.lid_shell.specs.Inside.{CanDo, Looks, LooksExactly};
-ghost use Rattle.lid_shell.specs.Steps.{missed_end, Moves, NotesOne, MissesLate};
+ghost use Rattle.lid_shell.specs.Steps.{missed_end, made_end, Moves, NotesStep, NotesOne, MissesLate};
 
 use crate::desk::Desk;
 use lid_base::Answer;
@@ -18,6 +18,7 @@ impl Desk {
         ensures exact { LooksExactly (LookIn i) self.old (B.ends board.old) (B.stands board.old) result }
         ensures moves { Moves self.old.ins.items self.old.outs.items (missed_end result) (B.ends board.old) (B.ends board.new) }
         ensures notes { NotesOne self.old.ins.items self.old.outs.items (B.steps board.old) (B.steps board.new) }
+        ensures noted { NotesStep (made_end result) (B.steps board.old) (B.steps board.new) }
         ensures late { MissesLate (B.ends board.old) result }
         ensures same { B.identity board.new ≡ B.identity board.old }
     {
@@ -42,6 +43,7 @@ impl Desk {
         ensures exact { LooksExactly (LookOut j) self.old (B.ends board.old) (B.stands board.old) result }
         ensures moves { Moves self.old.ins.items self.old.outs.items (missed_end result) (B.ends board.old) (B.ends board.new) }
         ensures notes { NotesOne self.old.ins.items self.old.outs.items (B.steps board.old) (B.steps board.new) }
+        ensures noted { NotesStep (made_end result) (B.steps board.old) (B.steps board.new) }
         ensures late { MissesLate (B.ends board.old) result }
         ensures same { B.identity board.new ≡ B.identity board.old }
     {

@@ -1,12 +1,13 @@
 //! Takes and puts.
 
-ghost use Rattle.std.specs.Prelude.{◌≡◌, ◌<◌, ◌+◌, ℕ, None, length, slice_set};
+ghost use Rattle.std.specs.Prelude.{◌≡◌, ◌<◌, ◌+◌, ℕ, Some, None, length, slice_index_or, slice_set};
+ghost use Rattle.lid_station.specs.Boards.{drain, fill};
 ghost use Rattle.lid_walk_machine.specs.Setups.{plan};
 ghost use Rattle.lid_shell_laws.specs.Setups.{Setup};
 ghost use Rattle.lid_walk_machine.specs.Machine.{Progress};
 ghost use Rattle.lid_shell.specs.declared.desk.Next.TheVariants.{Take, Put};
 ghost use Rattle.lid_shell.specs.Inside.{CanDo, CanPut, AreMade, IsAbout, IsBusyAtBoard, HasTaken, HasPut};
-ghost use Rattle.lid_shell.specs.Steps.{Moves, NotesOne};
+ghost use Rattle.lid_shell.specs.Steps.{Moves, NotesStep, NotesOne};
 
 use crate::desk::Desk;
 use crate::rules::actors_go_by_rules;
@@ -29,6 +30,7 @@ impl Desk {
             → IsAbout m v q (Take i) → HasTaken m v q i result self.new (B.ends board.new) (B.stands board.new) }
         ensures moves { Moves self.old.ins.items self.old.outs.items None (B.ends board.old) (B.ends board.new) }
         ensures notes { NotesOne self.old.ins.items self.old.outs.items (B.steps board.old) (B.steps board.new) }
+        ensures noted { NotesStep (Some (drain (slice_index_or self.old.ins.items i 0))) (B.steps board.old) (B.steps board.new) }
         ensures same { B.identity board.new ≡ B.identity board.old }
     {
         let token = board.take(self.ins.as_slice()[i]);
@@ -45,6 +47,7 @@ impl Desk {
             → HasPut m v q j result self.new (B.ends board.new) (B.stands board.new) }
         ensures moves { Moves self.old.ins.items self.old.outs.items None (B.ends board.old) (B.ends board.new) }
         ensures notes { NotesOne self.old.ins.items self.old.outs.items (B.steps board.old) (B.steps board.new) }
+        ensures noted { NotesStep (Some (fill (slice_index_or self.old.outs.items j 0))) (B.steps board.old) (B.steps board.new) }
         ensures same { B.identity board.new ≡ B.identity board.old }
     {
         actors_go_by_rules();

@@ -72,6 +72,9 @@ pub struct TokenPlaces {
 
 impl TokenPlaces {
     /// Those of all channels and nodes of a system. It goes once over all channels.
+    ///
+    /// # Errors
+    /// Memory is wanting.
     pub fn of(alloc: Global, system: &System) -> Result<TokenPlaces, AllocError>
         requires { IsWellFormed system.now }
         ensures { IfOk result (ArePlacesOf system.now) }

@@ -1,5 +1,5 @@
 -- The stations that a node drains and fills, channel by channel.
-use Rattle.std.proofs.Common.{◌≡◌, ℕ, suc, ◌+◌, ◌-◌, ◌<◌, ◌≤◌, ◌==◌, Bool, false, cond, List, [], ◌∷◌, ◌++◌, length, take, get_or, filter, refl, sym, ◌∙◌, ap, zero-add, add-zero, arith}
+use Rattle.std.proofs.Common.{◌≡◌, ℕ, suc, ◌+◌, ◌-◌, ◌<◌, ◌≤◌, ◌==◌, Bool, false, cond, List, [], ◌∷◌, ◌++◌, length, take, get_or, filter, Vec, Global, refl, sym, ◌∙◌, ap, subst, zero-add, add-zero, arith}
 use Rattle.std.proofs.lemmas.Bool.{eq-eqb, ne_eqb}
 use Rattle.std.proofs.lemmas.List.Elements.{filter-append}
 use Rattle.std.proofs.lemmas.List.Sums.{sum_by_more, sum_by_more_le}
@@ -13,7 +13,7 @@ use Rattle.lid_stations.specs.Placements.{links_of, station_count, Fits}
 use Rattle.lid_stations.specs.Stations.{Spot, mover, channel_at, fills, drains, filler, drainer}
 use Rattle.lid_stations.proofs.Spots.{spot_is}
 use Rattle.lid_shell_laws.proofs.Passing.{last_alone, first_alone}
-use Rattle.lid_walk.specs.Inside.{drained_below, filled_below, ends_below, end_of}
+use Rattle.lid_walk.specs.Inside.{drained_below, filled_below, ends_below, end_of, HasEnd, AreEndsBelow}
 use Rattle.lid_base.proofs.Each.{each_append}
 
 -- what passes of the stations of a channel comes after what passes of those before
@@ -113,3 +113,13 @@ module _ (s : System) (p : Placement) (fits : Fits s p) (c : ℕ) (there : c < l
         → new ≡ ends_below side (links_of s) p v (number + k + 1)
     ends_next Drain number k d old new is many same was pushed = drained_next number k d.to old new is many (ap (λ (e : Channel). e.to) same) was pushed
     ends_next Fill number k d old new is many same was pushed = filled_next number k d.from old new is many (ap (λ (e : Channel). e.from) same) was pushed
+
+  -- the same of all nodes, where the list of each got its station of this channel
+  pub all_next : (side : Side) (number k : ℕ) (d : Channel) (old new : List (Vec ℕ Global)) → number ≡ first → k ≡ more → d ≡ channel_at (links_of s) c → AreEndsBelow side (record { system = s; placement = p }) number old → HasEnd side d number (number + k) old new
+      → AreEndsBelow side (record { system = s; placement = p }) (number + k + 1) new
+  all_next side number k d old new is many same was pushed = record {
+    many = pushed.many ∙ was.many;
+    each = λ v e node.
+        ends_next v node side number k d (get_or old v e).items (get_or new v e).items is many same (was.each v e node)
+        (pushed.each v e (subst (λ (n : ℕ). v < n) (sym was.many) node));
+  }

@@ -157,14 +157,9 @@ module _ (m : Setup) (setup : IsSetup m) where
       (λ j station at. ap begin_count (first_at m station None (filled_is (links_of m.system) m.placement v j station at).0) ∙ counted station)
 
 module _ (s : System) (p : Placement) (rows : List (List Bool)) (formed : IsWellFormed s) (fits : Fits s p) (few : length rows ≤ 1000000) (wide : AllByRecursion (IsInputRow s) rows) (tables : HasTable (system_drivers s)) (firsts : List (Option ℕ)) (are : (m : Setup) → IsSetupOf m s p rows → firsts ≡ first_tokens (plan m)) where
-  -- there is a start token, or none, for each capacity
-  pub as_many_firsts : length firsts ≡ length p.caps
-  as_many_firsts =
+  -- there is a start token, or none, for each capacity, and each is small
+  pub known_firsts : (length firsts ≡ length p.caps) × All (λ first. IfSome first (λ token. token < 2 ^ 31)) firsts
+  known_firsts =
       let own = setup_of s p rows formed fits few wide tables in
       let on : stations_of (plan own.0) ≡ station_count p.relays = ap (λ (q : Placement). station_count q.relays) own.1.placement in
-      ap length (are own.0 own.1) ∙ firsts_many own.0 ∙ on ∙ sym fits.rules.caps
-
-  pub small_firsts : All (λ first. IfSome first (λ token. token < 2 ^ 31)) firsts
-  small_firsts =
-      let own = setup_of s p rows formed fits few wide tables in
-      subst (λ (xs : List (Option ℕ)). All (λ first. IfSome first (λ token. token < 2 ^ 31)) xs) (sym (are own.0 own.1)) (firsts_small own.0 own.1.rules)
+      (ap length (are own.0 own.1) ∙ firsts_many own.0 ∙ on ∙ sym fits.rules.caps, subst (λ (xs : List (Option ℕ)). All (λ first. IfSome first (λ token. token < 2 ^ 31)) xs) (sym (are own.0 own.1)) (firsts_small own.0 own.1.rules))

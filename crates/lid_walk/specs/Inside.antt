@@ -1,5 +1,7 @@
 -- Serves the bodies: stations as they are listed, actors as they are made, and start tokens as they are written.
-use Rattle.std.specs.Prelude.{◌≡◌, ℕ, ◌<◌, ◌≤◌, ◌==◌, Bool, if◌then◌else◌, List, [], ◌∷◌, length, filter, Option, Some, None, slice_get}
+use Rattle.std.specs.Prelude.{◌≡◌, ℕ, ◌<◌, ◌≤◌, ◌==◌, Bool, if◌then◌else◌, List, [], ◌∷◌, ◌++◌, length, filter, Option, Some, None, slice_get, slice_index_or}
+use Rattle.std.specs.declared.vec.Vec.{Vec}
+use Rattle.std.specs.declared.alloc.Global.{Global}
 use Rattle.lid_design.specs.Network.{Table}
 use Rattle.lid_base.specs.Each.{from_each}
 use Rattle.lid_system.specs.declared.System.{System}
@@ -7,10 +9,11 @@ use Rattle.lid_system.specs.declared.Channel.{Channel}
 use Rattle.lid_system.specs.Systems.{Point}
 use Rattle.lid_system.specs.Tables.{IsTable}
 use Rattle.lid_shell_nodes.specs.Nodes.{tokens_from}
+use Rattle.lid_shell_nodes.specs.Placing.{ArePlacesOf}
 use Rattle.lid_station.specs.declared.looks.Side.{Side}
 use Rattle.lid_station.specs.declared.looks.Side.TheVariants.{Drain, Fill}
 use Rattle.lid_stations.specs.declared.placement.Placement.{Placement}
-use Rattle.lid_stations.specs.Placed.{Placing}
+use Rattle.lid_stations.specs.Placed.{Placing, links_in}
 use Rattle.lid_stations.specs.Placements.{Links}
 use Rattle.lid_stations.specs.Stations.{filler, drainer}
 use Rattle.lid_shell_laws.specs.Runs.{drained_by, filled_by}
@@ -20,6 +23,7 @@ use Rattle.lid_shell_laws.specs.Setups.{Setup, IsSetup}
 use Rattle.lid_walk_machine.specs.Machine.{begun}
 use Rattle.lid_shell.specs.declared.actor.Actor.{Actor}
 use Rattle.lid_shell.specs.Actors.{IsActor}
+use Rattle.lid_walk.specs.declared.ends.NodeWiring.{NodeWiring}
 use Rattle.lid_walk.specs.Setups.{IsSetupOf}
 
 -- the stations below a number that an actor drains, and those that it fills
@@ -42,6 +46,32 @@ ends_below Fill l p v n = filled_below l p v n
 abbrev pub end_of : Side → Channel → ℕ → ℕ → ℕ → List ℕ
 end_of Drain d v first last = if d.to == v then last ∷ [] else []
 end_of Fill d v first last = if d.from == v then first ∷ [] else []
+
+-- so many lists without stations
+pub record AreEmpty (count : ℕ) (lists : List (Vec ℕ Global)) : Type 0 where
+  pub many : length lists ≡ count
+  pub each : (v : ℕ) (d : Vec ℕ Global) → v < count → (slice_index_or lists v d).items ≡ []
+
+-- the list of each node got that of a channel, where the channel leads to the node or comes from it
+pub record HasEnd (side : Side) (c : Channel) (first last : ℕ) (old new : List (Vec ℕ Global)) : Type 0 where
+  pub many : length new ≡ length old
+  pub each : (v : ℕ) (d : Vec ℕ Global) → v < length old → (slice_index_or new v d).items ≡ (slice_index_or old v d).items ++ end_of side c v first last
+
+-- the stations below a number of which each node has this side
+pub record AreEndsBelow (side : Side) (q : Placing) (n : ℕ) (lists : List (Vec ℕ Global)) : Type 0 where
+  pub many : length lists ≡ length q.system.nodes
+  pub each : (v : ℕ) (d : Vec ℕ Global) → v < length q.system.nodes → (slice_index_or lists v d).items ≡ ends_below side (links_in q) q.placement v n
+
+-- all of which each node has this side
+pub record AreEndsBy (side : Side) (q : Placing) (lists : List (Vec ℕ Global)) : Type 0 where
+  pub many : length lists ≡ length q.system.nodes
+  pub each : (v : ℕ) (d : Vec ℕ Global) → v < length q.system.nodes → (slice_index_or lists v d).items ≡ ends_by side (links_in q) q.placement v
+
+-- so are all nodes wired
+pub record AreWired (q : Placing) (x : NodeWiring) : Type 0 where
+  pub placed : ArePlacesOf q.system x.places
+  pub drained : AreEndsBy Drain q x.ins.items
+  pub filled : AreEndsBy Fill q x.outs.items
 
 -- actor v of each setup of a system, its stations and its rows, which has not fired
 abbrev pub IsUnfiredActor : Placing → List (List Bool) → ℕ → Actor → Type 0

@@ -1,59 +1,82 @@
-//! The stations at which a node takes tokens, and those at which it puts them.
+//! The stations at which nodes take tokens, and those at which they put them.
 
-ghost use Rattle.std.specs.Prelude.{◌≡◌, ◌<◌, ◌++◌, [], ◌∷◌, length, if◌then◌else◌, IfOk, OnOk};
-ghost use Rattle.lid_stations.specs.Placed.{links_in};
-ghost use Rattle.lid_walk.specs.Inside.{ends_by, end_of};
+ghost use Rattle.std.specs.Prelude.{◌<◌, length, IfOk, OnOk};
+ghost use Rattle.lid_walk.specs.Inside.{AreEmpty, HasEnd, AreEndsBy, AreWired};
 
+use lid_shell_nodes::TokenPlaces;
 use lid_station::Side;
 use lid_stations::Placed;
 use lid_system::Channel;
 use std::alloc::{AllocError, Global};
 
-/// Appends a station, where it passes.
-fn push_where(stations: &mut Vec<u32>, station: u32, passes: bool) -> Result<(), AllocError>
-    ensures { OnOk result (stations.new.items ≡ stations.old.items ++ (if passes then station ∷ [] else [])) }
+/// So many lists without stations.
+fn empties(alloc: Global, count: usize) -> Result<Vec<Vec<u32>>, AllocError>
+    ensures { IfOk result (λ lists. AreEmpty count lists.items) }
 {
-    if passes {
-        stations.push(station)?;
+    let mut lists = Vec::new(alloc);
+    for _ in 0..count {
+        lists.push(Vec::new(alloc))?;
+    }
+    Ok(lists)
+}
+
+/// Appends the station of a channel at which a node takes or puts to the list of that node: the one to which the
+/// channel leads, or from which it comes.
+fn push_end(
+    lists: &mut Vec<Vec<u32>>,
+    side: Side,
+    channel: &Channel,
+    first: u32,
+    last: u32,
+) -> Result<(), AllocError>
+    requires comes { channel.now.from < length lists.old.items }
+    requires leads { channel.now.to < length lists.old.items }
+    ensures { OnOk result (HasEnd side channel.now first last lists.old.items lists.new.items) }
+{
+    match side {
+        Side::Drain => lists[channel.to as usize].push(last)?,
+        Side::Fill => lists[channel.from as usize].push(first)?,
     }
     Ok(())
 }
 
-/// Appends the station of a channel at which a node takes or puts, where the channel leads to it or comes from it.
-fn push_end(
-    stations: &mut Vec<u32>,
-    side: Side,
-    channel: &Channel,
-    node: u32,
-    first: u32,
-    last: u32,
-) -> Result<(), AllocError>
-    ensures { OnOk result (stations.new.items ≡ stations.old.items ++ end_of side channel.now node first last) }
-{
-    match side {
-        Side::Drain => push_where(stations, last, channel.to == node),
-        Side::Fill => push_where(stations, first, channel.from == node),
-    }
-}
-
-/// The stations of which a node has this side, in order: those that it drains are the last ones of the channels that
-/// lead to it, and those that it fills the first ones of the channels that come from it.
-pub(crate) fn stations_of(
+/// The stations of which each node has this side, in order: those that it drains are the last ones of the channels
+/// that lead to it, and those that it fills the first ones of the channels that come from it. It goes once over all
+/// channels.
+pub(crate) fn stations_by(
     alloc: Global,
     placed: &Placed<'_>,
-    node: u32,
     side: Side,
-) -> Result<Vec<u32>, AllocError>
-    requires node { node < length placed.now.system.nodes }
-    ensures { IfOk result (λ stations. stations.items ≡ ends_by side (links_in placed.now) placed.now.placement node) }
+) -> Result<Vec<Vec<u32>>, AllocError>
+    ensures { IfOk result (λ lists. AreEndsBy side placed.now lists.items) }
 {
-    let mut stations = Vec::new(alloc);
+    let mut lists = empties(alloc, placed.system.nodes.len())?;
     let mut first = 0u32;
     for c in 0..placed.placement.relays.len() {
         let last = first + placed.placement.relays.as_slice()[c];
         let channel = &placed.system.channels.as_slice()[c];
-        push_end(&mut stations, side, channel, node, first, last)?;
+        push_end(&mut lists, side, channel, first, last)?;
         first = last + 1;
     }
-    Ok(stations)
+    Ok(lists)
+}
+
+/// How nodes are wired: where the tokens that they take stand, the stations that each drains, and those that it fills.
+#[derive(Drop)]
+pub(crate) struct NodeWiring {
+    pub(crate) places: TokenPlaces,
+    pub(crate) ins: Vec<Vec<u32>>,
+    pub(crate) outs: Vec<Vec<u32>>,
+}
+
+impl NodeWiring {
+    /// That of all nodes. It goes three times over all channels.
+    pub(crate) fn of(alloc: Global, placed: &Placed<'_>) -> Result<NodeWiring, AllocError>
+        ensures { IfOk result (AreWired placed.now) }
+    {
+        let places = TokenPlaces::of(alloc, placed.system)?;
+        let ins = stations_by(alloc, placed, Side::Drain)?;
+        let outs = stations_by(alloc, placed, Side::Fill)?;
+        Ok(NodeWiring { places, ins, outs })
+    }
 }

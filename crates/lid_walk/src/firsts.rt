@@ -5,16 +5,13 @@ ghost use Rattle.std.specs.List.{All, AllByRecursion};
 ghost use Rattle.lid_stations.specs.Placements.{station_count};
 ghost use Rattle.lid_walk_machine.specs.Setups.{plan};
 ghost use Rattle.lid_shell_laws.specs.Setups.{Setup, IsInputRow};
-ghost use Rattle.lid_shell_nodes.specs.Placing.{ArePlacesOf};
 ghost use Rattle.lid_walk.specs.Setups.{IsSetupOf};
 ghost use Rattle.lid_walk.specs.Firsts.{first_tokens};
-ghost use Rattle.lid_walk.specs.Inside.{AreWritten, HasFirsts, BeginsWith};
+ghost use Rattle.lid_walk.specs.Inside.{AreWired, AreWritten, HasFirsts, BeginsWith};
 
-use crate::ends::stations_of;
+use crate::ends::NodeWiring;
 use crate::tokens::node_tokens;
 use lid_shell::actors_go_by_rules;
-use lid_shell_nodes::TokenPlaces;
-use lid_station::Side;
 use lid_stations::Placed;
 use lid_system::systems_have_one_table;
 use lid_texts::Rows;
@@ -36,12 +33,12 @@ fn write_tokens(stations: &[u32], tokens: &[u32], firsts: &mut [Option<u32>])
 fn write_node(
     alloc: Global,
     placed: &Placed<'_>,
-    places: &TokenPlaces,
+    wiring: &NodeWiring,
     node: u32,
     row: &[bool],
     firsts: &mut [Option<u32>],
 ) -> Result<(), AllocError>
-    requires places { ArePlacesOf placed.now.system places.now }
+    requires wired { AreWired placed.now wiring.now }
     requires node { node + 1 < length placed.now.system.nodes }
     requires row { IsInputRow placed.now.system row.now }
     requires many { length firsts.old ≡ station_count placed.now.placement.relays }
@@ -49,8 +46,8 @@ fn write_node(
     ensures firsts { OnOk result ((m : Setup) → BeginsWith m placed.now row.now → HasFirsts m node firsts.old → HasFirsts m (node + 1) firsts.new) }
 {
     actors_go_by_rules();
-    let stations = stations_of(alloc, placed, node, Side::Fill)?;
-    let listed = stations.as_slice();
+    let listed = wiring.outs.as_slice()[node as usize].as_slice();
+    let places = &wiring.places;
     let tokens = node_tokens(alloc, placed.system, places, node, row, listed.len())?;
     write_tokens(listed, tokens.as_slice(), firsts);
     Ok(())
@@ -69,9 +66,9 @@ fn write_nodes(
     ensures firsts { OnOk result ((m : Setup) → BeginsWith m placed.now row.now → HasFirsts m 0 firsts.old
         → HasFirsts m (length placed.now.system.nodes - 1) firsts.new) }
 {
-    let places = TokenPlaces::of(alloc, placed.system)?;
+    let wiring = NodeWiring::of(alloc, placed)?;
     for node in 0..placed.system.nodes.len() as u32 - 1 {
-        write_node(alloc, placed, &places, node, row, firsts)?;
+        write_node(alloc, placed, &wiring, node, row, firsts)?;
     }
     Ok(())
 }

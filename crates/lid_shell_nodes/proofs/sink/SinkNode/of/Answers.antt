@@ -5,8 +5,11 @@ use Rattle.lid_system.specs.declared.System.{System}
 use Rattle.lid_system.specs.declared.InBit.{InBit}
 use Rattle.lid_system.specs.declared.Node.{Node}
 use Rattle.lid_system.specs.declared.Node.TheVariants.{Sink}
-use Rattle.lid_system.specs.Systems.{IsWellFormed}
-use Rattle.lid_shell_nodes.specs.Wiring.{SinkView, IsSinkOf}
+use Rattle.lid_system.specs.Systems.{IsRead, IsWellFormed}
+use Rattle.lid_shell_nodes.specs.declared.wires.InputRead.{InputRead}
+use Rattle.lid_shell_nodes.specs.Nodes.{channels_to}
+use Rattle.lid_shell_nodes.specs.Placing.{ArePlacedIn}
+use Rattle.lid_shell_nodes.specs.Wiring.{SinkView, IsSinkOf, read_of}
 use Rattle.lid_shell_nodes.specs.Inside.{read_in, ReadsBelow}
 use Rattle.lid_shell_nodes.proofs.Places.{reads_are}
 use Rattle.lid_shell_nodes.proofs.Tokens.{reads_placed, node_here, sink_within}
@@ -17,6 +20,13 @@ last_here s well n long seen same node x read is =
     let least = well.least in
     let below : n - 1 < length s.nodes = omega arith in
     node_here s.nodes seen (n - 1) node x same below read is
+
+-- what the sink takes and reads, by the places of tokens
+takes_and_reads : (s : System) (v : ℕ) → v < length s.nodes → (ins seen : List InBit) → AllByRecursion (IsRead s v) ins → seen ≡ ins → (places taken : List ℕ) → length taken ≡ length s.nodes → ArePlacedIn s.channels places taken
+    → (count : ℕ) (reads : List InputRead) → count ≡ get_or taken v 0 → reads ≡ map (read_in places) seen → (count ≡ length (channels_to s.channels v)) × (reads ≡ map (read_of s.channels v) ins)
+takes_and_reads s v below ins seen read same places taken nodes placed count reads counted are =
+    let within : v < length taken = omega arith in
+    (counted ∙ placed.counts v within, are ∙ ap (map (read_in places)) same ∙ reads_are s v places taken placed ins read)
 
 pub inputs_of-requires-clause-node : goal.inputs_of-requires-clause-node
 inputs_of-requires-clause-node c =
@@ -55,15 +65,11 @@ invariant_of-result c =
     let here = last_here s c.requires c.len-last.result c.len-last.ensures c.as_slice.result.now c.as_slice.ensures c.index-as_slice-last.result x c.index-as_slice-last.is c.in-Sink.is in
     let i = c.in_ok-inputs-in-Sink in
     let places = c.in_ok-places.places in
-    let placed = c.in_ok-places.ensures.placed in
-    let many = c.in_ok-places.ensures.nodes in
     let size = c.len-last.ensures in
     let some = c.requires.least in
-    let below : v < length places.taken.items = omega arith in
-    sink_within s c.requires v c.in-Sink.columns c.in-Sink.ins here i.inputs.taken i.inputs.reads.items
-    (i.ensures.taken ∙ placed.counts v below)
-    (i.ensures.reads ∙ ap (map (read_in places.places.items)) c.as_slice-in-Sink.ensures
-    ∙ reads_are s v places.places.items places.taken.items placed c.in-Sink.ins (c.requires.each_node v x here).reads)
+    let are = takes_and_reads s v (omega arith) c.in-Sink.ins c.as_slice-in-Sink.result.now (c.requires.each_node v x here).reads c.as_slice-in-Sink.ensures places.places.items places.taken.items
+    c.in_ok-places.ensures.nodes c.in_ok-places.ensures.placed i.inputs.taken i.inputs.reads.items i.ensures.taken i.ensures.reads in
+    sink_within s c.requires v c.in-Sink.columns c.in-Sink.ins here i.inputs.taken i.inputs.reads.items are.0 are.1
 
 pub returns : goal.returns
 returns c =
@@ -73,23 +79,18 @@ returns c =
     let here = last_here s c.requires c.len-last.result c.len-last.ensures c.as_slice.result.now c.as_slice.ensures c.index-as_slice-last.result x c.index-as_slice-last.is c.in-Sink.is in
     let i = c.in_ok-inputs-in-Sink in
     let places = c.in_ok-places.places in
-    let placed = c.in_ok-places.ensures.placed in
-    let many = c.in_ok-places.ensures.nodes in
     let size = c.len-last.ensures in
     let some = c.requires.least in
-    let below : v < length places.taken.items = omega arith in
+    let are = takes_and_reads s v (omega arith) c.in-Sink.ins c.as_slice-in-Sink.result.now (c.requires.each_node v x here).reads c.as_slice-in-Sink.ensures places.places.items places.taken.items
+    c.in_ok-places.ensures.nodes c.in_ok-places.ensures.placed i.inputs.taken i.inputs.reads.items i.ensures.taken i.ensures.reads in
     let seen : SinkView = record { taken = i.inputs.taken; reads = i.inputs.reads.items } in
-    let long = c.len-last.ensures in
-    let least = c.requires.least in
     let end : v + 1 ≡ length s.nodes = omega arith in
-    subst (λ (n : ℕ). IsSinkOf s (n - 1) seen) long
+    subst (λ (n : ℕ). IsSinkOf s (n - 1) seen) size
     (record {
       columns = c.in-Sink.columns;
       ins = c.in-Sink.ins;
       last = end;
       node = here;
-      many = i.ensures.taken ∙ placed.counts v below;
-      reading =
-          i.ensures.reads ∙ ap (map (read_in places.places.items)) c.as_slice-in-Sink.ensures
-          ∙ reads_are s v places.places.items places.taken.items placed c.in-Sink.ins (c.requires.each_node v x here).reads;
+      many = are.0;
+      reading = are.1;
     })

@@ -4,8 +4,8 @@ use Rattle.std.proofs.lemmas.List.{get_or_default}
 use Rattle.lid_system.specs.declared.Channel.{Channel}
 use Rattle.lid_stations.specs.Placed.{Placing, IsPlaced}
 use Rattle.lid_stations.specs.Stations.{no_channel}
-use Rattle.lid_walk.proofs.Listed.{next_first, ends_next}
-use Rattle.lid_walk.proofs.ends.stations_of.Goals as goal
+use Rattle.lid_walk.proofs.Listed.{next_first, all_next}
+use Rattle.lid_walk.proofs.ends.stations_by.Goals as goal
 
 pub loop-c-preserved : goal.loop-c-preserved
 loop-c-preserved c =
@@ -25,6 +25,6 @@ loop-c-preserved c =
     let next = next_first s p placed.fits i there in
     record {
       counted = omega arith;
-      listed = ends_next s p placed.fits i there c.args.node c.requires.node c.args.side c.loop-c.first (get_or c.as_slice.result.now i 0) c.index-as_slice-c.result c.loop-c.stations.items c.push_end.new.stations.items
+      listed = all_next s p placed.fits i there c.args.side c.loop-c.first (get_or c.as_slice.result.now i 0) c.index-as_slice-c.result c.loop-c.lists.items c.push_end.new.lists.items
           counted k channel c.loop-c.invariant.listed c.in_ok-push_end.ensures;
     }
