@@ -56,10 +56,11 @@ loop-place-preserved c =
     let at : c.args.row * p.span + c.loop-k.k ≡ c.args.row * words_for p.width + place / 64 = omega (arith, start, low, near) in
     let is : word ≡ get_or words (c.args.row * words_for p.width + place / 64) 0 =
     c.index-word.ensures ∙ get_or_default words (c.args.row * p.span + c.loop-k.k) word 0 there ∙ ap (λ (n : ℕ). get_or words n 0) at in
-    let bit = bit_is words p.width p.count c.args.row less place word inside is ∙ ap (λ (v : WideRows). get_or (get_or v.rows c.args.row []) place false) c.self.view_is in
-    (length-set into place _ ∙ c.loop-place.invariant.0,
-    omega (arith, low),
-    written into (get_or c.args.self.now.rows c.args.row []) place _ (omega (arith, inside, many)) bit c.loop-place.invariant.2)
+    let bit = bit_is words p.width p.count c.args.row less place word inside is ∙ ap (λ (v : WideRows). get_or (get_or v.rows c.args.row []) place false) c.self.view_is in (
+      length-set into place _ ∙ c.loop-place.invariant.0,
+      omega (arith, low),
+      written into (get_or c.args.self.now.rows c.args.row []) place _ (omega (arith, inside, many)) bit c.loop-place.invariant.2,
+    )
 
 pub returns : goal.returns
 returns c =
