@@ -31,7 +31,7 @@ lay_out-requires-clause-outputs c =
     let p = c.args.placed.now.placement in
     let placed : IsPlaced s p = subst (λ (v : Placing). IsPlaced v.system v.placement) c.placed.view_is c.placed.invariant in
     let same : length (sink_reads s) ≡ length (root_outputs c.args.checked.now) =
-        sym (length-map (sink_reads s) (read_wire p)) ∙ as_many_outputs c.args.checked.now s p (nets_of c.in_ok-shells.shells) c.requires.of placed.formed in
+    sym (length-map (sink_reads s) (read_wire p)) ∙ as_many_outputs c.args.checked.now s p (nets_of c.in_ok-shells.shells) c.requires.of placed.formed in
     omega (arith, same, c.requires.few)
 
 pub returns : goal.returns
