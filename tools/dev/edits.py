@@ -6,7 +6,7 @@ the function that it changes is checked over the libraries of a gate, by over.py
 
 FROM is a clone in which a gate has built the libraries. A line for each edit: `refused` with the first reason,
 `PASSED?`, which wants a look (a function can keep its contract while another that calls it fails), or `NOT TRIED`, where
-the prover does not know the function by its name. `rt ci` alone is the verdict.
+the prover does not know the function by its name, or a library is missing. `rt ci` alone is the verdict.
 """
 
 import os
@@ -22,7 +22,7 @@ from arguments import need, need_top, parser_of
 
 TOP = Path.cwd()
 SAYS = re.compile(r"no proof|not proved|\berror:")
-LOST = re.compile(r"several functions are named|has no function")
+LOST = re.compile(r"several functions are named|has no function|no library of|unusable-built-library")
 
 
 def function_at(module: str, source: str, place: int) -> str | None:
@@ -60,9 +60,11 @@ def tried(edit: Path, clone: Path, libraries: str) -> str:
     words = ["tools/dev/over.py", "check", crate, libraries, "--", *only]
     env = {**os.environ, "OVER": str(clone / "over")}
     ran = subprocess.run(words, cwd=clone, env=env, stdout=subprocess.PIPE, stderr=subprocess.STDOUT, errors="replace", check=False)
-    said = [line for line in ran.stdout.splitlines() if SAYS.search(line)]
-    if said and LOST.search(said[0]):
-        return f"{crate}/{edit.stem}: NOT TRIED: {said[0][:160]}"
+    lines = ran.stdout.splitlines()
+    lost = [line for line in lines if LOST.search(line)]
+    if lost:
+        return f"{crate}/{edit.stem}: NOT TRIED: {lost[0][:160]}"
+    said = [line for line in lines if SAYS.search(line)]
     return f"{crate}/{edit.stem}: {'refused: ' + said[0][:160] if said else 'PASSED?'}"
 
 
