@@ -2,8 +2,9 @@
 """Counts the atomic operations of the calls of a hand on a shared board, and the calls of the board that a step of an
 actor makes, by the sources.
 
-No contract says how often a body looks at a word: one that looks twice, or peeks, meets the same clauses. Nor does one
-say that `Void` and `Stop` come only where this load found nothing, at a hand without the other end. So this reads:
+No contract says how often a call of the board looks at a word: one that looks twice, or peeks, meets the same clauses
+(of a step of an actor `step` says that it makes one call, of a turn nothing does). Nor does one say that `Void` and
+`Stop` come only where this load found nothing, at a hand without the other end. So this reads:
 
 - `lid_board`: each mention of an operation of `atomic_table` counts, as a method, by a path or as a value, through all
   functions of the crate. Each function makes the operation that CALLS has for it, once, in no branch, loop or closure,
