@@ -25,6 +25,7 @@ pub(crate) fn lay_out_all(
     requires few { length (root_inputs checked.now) + length (root_outputs checked.now) < 32768 }
     ensures { IfOk result (IsCircuitLaidOut checked.now placed.now.system placed.now.placement) }
 {
+    let _ = &placed.system;
     let shells = make_shells(alloc, checked, placed)?;
     lay_out(alloc, placed, shells)
 }

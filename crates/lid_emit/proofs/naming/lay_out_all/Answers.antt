@@ -3,19 +3,17 @@ use Rattle.std.proofs.lemmas.List.{length-map}
 use Rattle.lid_base.proofs.Results.{if_both_ok}
 use Rattle.lid_design.specs.Columns.{root_inputs, root_outputs}
 use Rattle.lid_stations.specs.Placed.{Placing, IsPlaced}
-use Rattle.lid_emit_shells.specs.Shells.{AreShells, nets_of}
+use Rattle.lid_emit_shells.specs.Shells.{nets_of}
 use Rattle.lid_emit_system.specs.Nets.{read_wire}
 use Rattle.lid_emit_system.specs.Wrapping.{input_count, sink_reads}
 use Rattle.lid_emit_laws.proofs.Ports.{as_many_inputs, as_many_outputs}
 use Rattle.lid_emit.proofs.naming.lay_out_all.Goals as goal
 
 pub lay_out-requires-clause-count : goal.lay_out-requires-clause-count
-lay_out-requires-clause-count c =
-    (subst (λ (v : Placing). AreShells c.args.checked.now v.system v.placement c.in_ok-shells.shells) (sym c.placed.view_is) c.in_ok-shells.ensures).count
+lay_out-requires-clause-count c = c.in_ok-shells.ensures.count
 
 pub lay_out-requires-clause-nets : goal.lay_out-requires-clause-nets
-lay_out-requires-clause-nets c =
-    (subst (λ (v : Placing). AreShells c.args.checked.now v.system v.placement c.in_ok-shells.shells) (sym c.placed.view_is) c.in_ok-shells.ensures).nets
+lay_out-requires-clause-nets c = c.in_ok-shells.ensures.nets
 
 pub lay_out-requires-clause-inputs : goal.lay_out-requires-clause-inputs
 lay_out-requires-clause-inputs c =
@@ -35,6 +33,6 @@ lay_out-requires-clause-outputs c =
     omega (arith, same, c.requires.few)
 
 pub returns : goal.returns
-returns c = rw (← c.placed.view_is) (
-    let shells = subst (λ (v : Placing). AreShells c.args.checked.now v.system v.placement c.in_ok-shells.shells) (sym c.placed.view_is) c.in_ok-shells.ensures in
-    if_both_ok c.lay_out.result (λ all plan sound. record { nets = nets_of c.in_ok-shells.shells; are = shells.nets; flats = shells.flats; skipped = shells.skipped; sound = sound; plan = plan }) c.lay_out.ensures.all c.lay_out.ensures.sound)
+returns c =
+    let shells = c.in_ok-shells.ensures in
+    if_both_ok c.lay_out.result (λ all plan sound. record { nets = nets_of c.in_ok-shells.shells; are = shells.nets; flats = shells.flats; skipped = shells.skipped; sound = sound; plan = plan }) c.lay_out.ensures.all c.lay_out.ensures.sound
