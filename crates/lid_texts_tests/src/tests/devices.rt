@@ -112,8 +112,8 @@ fn are_apart<S: Shelf>(shelf: &mut S, first: &str, second: &str) -> bool {
 fn names_of_one_length_are_two_files(rt: HostRuntime) -> Result<(), Fail> {
     let first = full_pipe(&rt, b"hello")?;
     let second = full_pipe(&rt, b"world")?;
-    let first_name = format!(in rt.alloc(); "/dev/fd/{:02}", first.as_raw_fd())?;
-    let second_name = format!(in rt.alloc(); "/dev/fd/{:02}", second.as_raw_fd())?;
+    let first_name = format!(in rt.alloc(); "/dev/fd/{}", first.as_raw_fd())?;
+    let second_name = format!(in rt.alloc(); "/dev/fd/{}", second.as_raw_fd())?;
     assert!(rt; first_name.len() == second_name.len());
     let mut shelf = DirShelf::new(&rt);
     assert!(rt; are_apart(&mut shelf, first_name.as_str(), second_name.as_str()));
