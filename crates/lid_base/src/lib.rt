@@ -32,4 +32,4 @@ pub use runs::{Answer, Shown, Tally};
 pub use system::{DirShelf, StdSink};
 pub use text::Text;
 pub use which::Which;
-pub use words::{begins_with, is_same, last_word, word_at, words_after};
+pub use words::{begins_with, is_same, word_at, words_after};

@@ -1,7 +1,7 @@
 //! The words of a line by their places.
 
 ghost use Rattle.std.specs.Prelude.{◌≡◌, bytes_eq, drop};
-ghost use Rattle.lid_base.specs.Words.{word_at, last_word, begins_with};
+ghost use Rattle.lid_base.specs.Words.{word_at, begins_with};
 
 use crate::items::Name;
 
@@ -14,13 +14,6 @@ pub fn word_at(words: &[Name], at: usize) -> &[u8]
     } else {
         &[]
     }
-}
-
-/// The last word, or no bytes without words.
-pub fn last_word(words: &[Name]) -> &[u8]
-    ensures { result.now ≡ last_word words.now }
-{
-    word_at(words, words.len().saturating_sub(1))
 }
 
 /// The words without the first `count`.

@@ -10,7 +10,7 @@ ghost use Rattle.lid_blif.specs.Designs.{IsNarrow, mask_of, is_cared_for, is_cha
 use crate::keyword::Keyword;
 use crate::line::{TextLine, Word, copy_words, last_word, word_at, words_after};
 use crate::shapes::{actual, formal, has_init, has_type};
-use crate::words::{is_zero_row, keyword, leading_rows};
+use crate::words::{is_zero_row, leading_rows};
 use lid_base::{Items, Name, copy_name, is_same};
 use lid_cover::{Cover, Cube};
 use lid_design::{Bind, Cell, Init, Inst, LatchKind};
@@ -166,7 +166,7 @@ pub fn push_cell(
         → cells.new.items ++ more ≡ cells.old.items ++ cell_before (keyword_of line.now.words) line.now.words later.now more) }
 {
     let words = line.words();
-    match keyword(line) {
+    match line.keyword() {
         Keyword::Names => {
             let cell = names_cell(alloc, words, leading_rows(later))?;
             cells.push(cell)?;

@@ -2,7 +2,7 @@ ghost use Rattle.std.specs.Prelude.{◌≡◌, ◌+◌, ◌<◌, ◌^◌, ◌||�
 
 use crate::keyword::Keyword;
 use crate::line::TextLine;
-use crate::words::{is_one_row, is_zero_row, keyword};
+use crate::words::{is_one_row, is_zero_row};
 
 /// What the lines so far mean for the next line.
 #[derive(Clone, Copy)]
@@ -48,7 +48,7 @@ impl Context {
         requires models { self.models + 1 < 2 ^ 64 }
         ensures { (before : List Line) → self ≡ context_of before → result ≡ context_of (line.now ∷ before) }
     {
-        match keyword(line) {
+        match line.keyword() {
             Keyword::Model => self.with_model(),
             Keyword::End => self.without_cover(false),
             Keyword::Names => self.with_cover(line.words().len().saturating_sub(2)),

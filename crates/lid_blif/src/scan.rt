@@ -11,7 +11,7 @@ use crate::fault::BlifFault;
 use crate::keyword::Keyword;
 use crate::line::{TextLine, last_word, word_at, words_after};
 use crate::shapes::{are_bindings, has_init, has_type, is_latch_init, is_latch_type, is_row_of};
-use crate::words::{is_line, is_zero_row, keyword};
+use crate::words::{is_line, is_zero_row};
 use lid_base::Which;
 use std::alloc::{AllocError, Global};
 use std::collections::HashSet;
@@ -139,7 +139,7 @@ fn line_fault(context: &Context, names: &HashSet<&[u8]>, line: &TextLine<'_>) ->
     requires models { context.now.models + 1 < 2 ^ 64 }
     ensures { (earlier : List (List ℕ)) → HoldsNames names.now earlier → result ≡ line_fault context.now earlier line.now }
 {
-    match keyword(line) {
+    match line.keyword() {
         Keyword::Model => model_fault(context, names, line),
         Keyword::Names => names_fault(context, line),
         Keyword::Latch => latch_fault(context, line),

@@ -1,7 +1,7 @@
 //! The words of a logical line.
 
 ghost use Rattle.std.specs.Prelude.{◌≡◌};
-ghost use Rattle.lid_blif.specs.Words.{named_keyword, begins_with_dot, keyword_of, same_keyword, is_line, leading, is_inner};
+ghost use Rattle.lid_blif.specs.Words.{named_keyword, begins_with_dot, same_keyword, is_line, leading, is_inner};
 ghost use Rattle.lid_blif.specs.declared.keyword.Keyword.TheVariants.{Row};
 ghost use Rattle.lid_blif.specs.Faults.{ends_in_zero, ends_in_one};
 
@@ -46,13 +46,6 @@ pub fn named(word: &[u8]) -> Keyword
     }
 }
 
-/// The keyword of a line.
-pub fn keyword(line: &TextLine<'_>) -> Keyword
-    ensures { result ≡ keyword_of line.now.words }
-{
-    line.keyword()
-}
-
 fn same(keyword: Keyword, other: Keyword) -> bool
     ensures { result ≡ same_keyword keyword other }
 {
@@ -63,7 +56,7 @@ fn same(keyword: Keyword, other: Keyword) -> bool
 pub fn is_line(wanted: Keyword, line: &TextLine<'_>) -> bool
     ensures { result ≡ is_line wanted line.now }
 {
-    same(wanted, keyword(line))
+    same(wanted, line.keyword())
 }
 
 /// Whether a row has the output 0.

@@ -28,7 +28,7 @@ use Rattle.lid_check_drivers.proofs.Single.{drivers_at, inputs_fewer}
 use Rattle.lid_base.proofs.Sums.{count_here}
 
 -- what cells and instances drive has a place
-inner_spot : (d : Design) (m : Model) (net : List ℕ) → Among net (inner_drivers d m) → Spot m net
+pub inner_spot : (d : Design) (m : Model) (net : List ℕ) → Among net (inner_drivers d m) → Spot m net
 inner_spot d m net among = by (among_append net (map cell_out m.cells) (flat_map (driven_by d) m.insts) among)
   where
     of_cell : (cell : Cell) → Among cell m.cells → net ≡ cell_out cell → Spot m net

@@ -55,14 +55,6 @@ get_none [] i d none = refl
 get_none (x ∷ xs) zero d none = absurd (let e : Some x ≡ None = none in cc)
 get_none (x ∷ xs) (suc i) d none = get_none xs i d none
 
--- data inputs are counted one after the other
-pub data_counted : (d : Design) (k : ℕ) (x : List ℕ) (xs : List (List ℕ)) → length (data_of d k (x ∷ xs)) ≡ length (data_of d k (x ∷ [])) + length (data_of d k xs)
-data_counted d k x xs = by (is_clock_of d k x)
-  where
-    by : (b : Bool) → length (cond (not b) (x ∷ data_of d k xs) (data_of d k xs)) ≡ length (cond (not b) (x ∷ []) []) + length (data_of d k xs)
-    by true = omega arith
-    by false = omega arith
-
 -- outputs by a set of them
 outputs_by : (ns : List (List ℕ)) (i : ℕ) (binds : List Bind) → flat_map (output_driver (firsts ns) i) binds ≡ flat_map (output_driver ns i) binds
 outputs_by ns i [] = refl

@@ -1,5 +1,5 @@
 -- How much drives the nets of a model: no more than there are nets.
-use Rattle.std.proofs.Common.{◌≡◌, ◌⊎◌, ℕ, ◌+◌, ◌≤◌, Bool, true, false, not, ◌&&◌, ◌||◌, List, [], ◌∷◌, ◌++◌, length, map, Option, Some, None, slice_get, inl, inr, refl, ap, subst, arith, length-append}
+use Rattle.std.proofs.Common.{◌≡◌, ◌⊎◌, ℕ, ◌+◌, ◌≤◌, Bool, true, false, not, ◌&&◌, ◌||◌, List, [], ◌∷◌, ◌++◌, length, map, Option, Some, slice_get, inl, inr, refl, ap, subst, arith, length-append}
 use Rattle.std.specs.Option.{option_map_or}
 use Rattle.std.specs.List.{IsDistinct, flat_map, count_by}
 use Rattle.std.specs.Str.{bytes_eq}
@@ -7,23 +7,20 @@ use Rattle.std.specs.Cmp.Lexicographic.{nat_list_eq_equiv}
 use Rattle.std.proofs.lemmas.List.{length-map}
 use Rattle.std.proofs.lemmas.Map.Made.{length-le_from_is_member}
 use Rattle.lid_base.specs.Lists.{Among, AreOnce}
-use Rattle.lid_base.proofs.Lists.{among_right, among_append, filter_among, map_among, flat_among, filter_le}
+use Rattle.lid_base.proofs.Lists.{among_append, filter_among, filter_le}
 use Rattle.lid_base.proofs.Once.{once_distinct}
 use Rattle.lid_base.proofs.Sums.{count_here}
 use Rattle.lid_design.specs.declared.Design.{Design}
 use Rattle.lid_design.specs.declared.Model.{Model}
-use Rattle.lid_design.specs.declared.Cell.{Cell}
-use Rattle.lid_design.specs.declared.Cell.TheVariants.{Names, Latch}
-use Rattle.lid_design.specs.declared.Inst.{Inst}
-use Rattle.lid_design.specs.Columns.{is_among, model_named, is_clock, data_inputs}
-use Rattle.lid_design.specs.Models.{firsts, nets, inner_drivers, driven_by, actuals_bound_to, read_names, cell_out, control_names, IsReached}
+use Rattle.lid_design.specs.Columns.{is_among, is_clock, data_inputs}
+use Rattle.lid_design.specs.Models.{firsts, nets, inner_drivers, driven_by, read_names, cell_out, IsReached}
 use Rattle.lid_design.specs.Elaboration.{model_nets}
 use Rattle.lid_check_drivers.specs.Judged.{IsJudged}
 use Rattle.lid_check_drivers.specs.Locals.{locals, model_locals}
 use Rattle.lid_check_drivers.proofs.Names.{to_among, from_among, count-cons, count_some}
 use Rattle.lid_check_drivers.proofs.Locals.{net_of, locals_named}
-use Rattle.lid_check_drivers.proofs.Wired.{Spot, spot_input, spot_cell, spot_bind, occurs, among_bound, sound, net_from}
-use Rattle.lid_check_drivers.proofs.Driven.{driven_once}
+use Rattle.lid_check_drivers.proofs.Wired.{spot_input, occurs, sound, net_from}
+use Rattle.lid_check_drivers.proofs.Driven.{inner_spot, driven_once}
 use Rattle.lid_check_elab.specs.Parts.{data_of}
 use Rattle.lid_check_elab.proofs.Counting.{nets_small}
 use Rattle.lid_check_elab.proofs.Driving.{model_here, data_is}
@@ -55,22 +52,6 @@ misused_inner true false false false h is = absurd (let e : false ≡ true = is 
 unnot : (b : Bool) → not b ≡ true → b ≡ false
 unnot false h = refl
 unnot true h = absurd (let e : false ≡ true = h in cc)
-
--- what cells and instances drive is named in the model
-inner_spot : (d : Design) (m : Model) (net : List ℕ) → Among net (inner_drivers d m) → Spot m net
-inner_spot d m net among = by (among_append net (map cell_out m.cells) (flat_map (driven_by d) m.insts) among)
-  where
-    of_cell : (cell : Cell) → Among cell m.cells → net ≡ cell_out cell → Spot m net
-    of_cell (Names inputs out cover) is eq = spot_cell (Names inputs out cover) is (among_right net inputs (out ∷ []) (inl eq))
-    of_cell (Latch input out kind control init) is eq = spot_cell (Latch input out kind control init) is (inr (among_right net (control_names control) (out ∷ []) (inl eq)))
-
-    of_inst : (inst : Inst) → Among inst m.insts → (o : Option Model) → Among net (option_map_or (λ m. actuals_bound_to m.outputs inst.binds) o []) → Spot m net
-    of_inst inst is None none = absurd none
-    of_inst inst is (Some sub) bound = let found = among_bound sub.outputs inst.binds net bound in spot_bind inst found.0 is found.1 found.3
-
-    by : Among net (map cell_out m.cells) ⊎ Among net (flat_map (driven_by d) m.insts) → Spot m net
-    by (inl cells) = let found = map_among cell_out net m.cells cells in of_cell found.0 found.1 found.2
-    by (inr insts) = let found = flat_among (driven_by d) net m.insts insts in of_inst found.0 found.1 (model_named d found.0.model) found.2
 
 module _ (d : Design) (judged : IsJudged d) (k : ℕ) (reached : IsReached d k) where
   module _ (m : Model) (here : slice_get d.models k ≡ Some m) where

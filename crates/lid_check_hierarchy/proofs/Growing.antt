@@ -1,19 +1,20 @@
--- Sets that grow by the names that a test takes.
-use Rattle.std.proofs.Common.{◌≡◌, ℕ, ◌+◌, ◌<◌, Bool, false, ◌||◌, List, [], ◌∷◌, length, take, get_or, sym, ◌∙◌, ap}
+-- Lists that grow by the names that a test takes.
+use Rattle.std.proofs.Common.{◌≡◌, ℕ, ◌+◌, ◌<◌, Bool, false, ◌||◌, List, [], ◌∷◌, ◌++◌, length, take, get_or, sym, ◌∙◌, ap}
 use Rattle.std.specs.List.{list_any}
 use Rattle.std.specs.Str.{bytes_eq}
 use Rattle.std.proofs.Math.Bool.{or-false, or_assoc}
 use Rattle.std.proofs.lemmas.List.{take_more}
 use Rattle.std.proofs.lemmas.List.Folds.{list_any-append}
-use Rattle.lid_check_names.specs.Names.{is_among, with_name}
-use Rattle.lid_check_names.proofs.Lists.{is_among_with_name}
+use Rattle.lid_check_names.specs.Names.{is_among}
+use Rattle.lid_check_names.proofs.Lists.{is_among_append}
 use Rattle.lid_check_hierarchy.specs.Clocks.{GrowsBy}
 
 pub grows_none : (set : List (List ℕ)) → GrowsBy (λ net. false) set set
 grows_none set net = sym (or-false (is_among net set))
 
-pub grows_name : (old new : List (List ℕ)) (name : List ℕ) → new ≡ with_name old name → GrowsBy (λ net. bytes_eq net name) old new
-grows_name old new name added net = ap (is_among net) added ∙ is_among_with_name net old name
+pub grows_name : (old new : List (List ℕ)) (name : List ℕ) → new ≡ old ++ name ∷ [] → GrowsBy (λ net. bytes_eq net name) old new
+grows_name old new name added net =
+    ap (is_among net) added ∙ is_among_append net old (name ∷ []) ∙ ap (λ (b : Bool). is_among net old || b) (or-false (bytes_eq net name))
 
 pub grows_like : (p q : List ℕ → Bool) (old new : List (List ℕ)) → ((net : List ℕ) → p net ≡ q net) → GrowsBy p old new → GrowsBy q old new
 grows_like p q old new same grows net = grows net ∙ ap (λ (b : Bool). is_among net old || b) (same net)

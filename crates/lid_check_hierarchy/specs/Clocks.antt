@@ -34,7 +34,7 @@ in_sets sets k net = is_among net (slice_index_or sets k [])
 abbrev pub HasClocks : Design → List (List (List ℕ)) → ℕ → List (List ℕ) → Type 0
 HasClocks d sets k set = (net : List ℕ) → is_among net set ≡ is_clock_by d (in_sets sets) k net
 
--- a set grows by the names that a test takes
+-- a list of names grows by those that a test takes
 abbrev pub GrowsBy : (List ℕ → Bool) → List (List ℕ) → List (List ℕ) → Type 0
 GrowsBy test old new = (net : List ℕ) → is_among net new ≡ (is_among net old || test net)
 

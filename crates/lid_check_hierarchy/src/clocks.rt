@@ -4,12 +4,13 @@ ghost use Rattle.std.specs.Str.{bytes_eq};
 ghost use Rattle.lid_design.specs.Columns.{is_among, is_clocked_by, is_own_clock};
 ghost use Rattle.lid_design.specs.Models.{insts_of};
 ghost use Rattle.lid_design.specs.WellFormed.{IsWellFormed};
+ghost use Rattle.lid_check_names.specs.Names.{texts};
 ghost use Rattle.lid_check_hierarchy.specs.Clocks.{binds_to, inst_binds, in_sets, is_clock_by, HasClocks, HaveClocks, GrowsBy};
 ghost use Rattle.lid_check_hierarchy.specs.Surveys.{IsModelOrder};
 
 use crate::uses::Uses;
 use lid_base::{Items, Name};
-use lid_check_names::NameSet;
+use lid_check_names::{NameSet, push_name};
 use lid_design::{Bind, Cell, Inst, Model};
 use std::alloc::{AllocError, Global};
 
@@ -24,38 +25,38 @@ pub fn clocks_of<'d>(
     requires sets { length sets.now ≡ length uses.now.models }
     ensures { IfOk result (HasClocks uses.now sets.now model) }
 {
-    let mut set = NameSet::new(alloc);
-    add_clocks(&mut set, uses, sets, model)?;
-    Ok(set)
+    let mut list = Vec::new(alloc);
+    add_clocks(&mut list, uses, sets, model)?;
+    NameSet::collect(alloc, list.as_slice())
 }
 
-/// Adds the clock names of a model, from those of the models of its instances.
+/// Appends the clock names of a model, from those of the models of its instances.
 fn add_clocks<'d>(
-    set: &mut NameSet<'d>,
+    list: &mut Vec<&'d [u8]>,
     uses: &Uses<'d>,
     sets: &[NameSet<'d>],
     model: u32,
 ) -> Result<(), AllocError>
     requires exists { model < length uses.now.models }
     requires sets { length sets.now ≡ length uses.now.models }
-    ensures { OnOk result (GrowsBy (is_clock_by uses.now (in_sets sets.now) model) set.old set.new) }
+    ensures { OnOk result (GrowsBy (is_clock_by uses.now (in_sets sets.now) model) (texts list.old.items) (texts list.new.items)) }
 {
     let body = &uses.design().models.as_slice()[model as usize];
-    add_own(set, body)?;
-    add_all_bound(set, uses, sets, model, body.insts.as_slice())
+    add_own(list, body)?;
+    add_all_bound(list, uses, sets, model, body.insts.as_slice())
 }
 
-/// Adds the names that a model itself makes clock names.
-fn add_own<'d>(set: &mut NameSet<'d>, model: &'d Model) -> Result<(), AllocError>
-    ensures { OnOk result (GrowsBy (is_own_clock model.now) set.old set.new) }
+/// Appends the names that a model itself makes clock names.
+fn add_own<'d>(list: &mut Vec<&'d [u8]>, model: &'d Model) -> Result<(), AllocError>
+    ensures { OnOk result (GrowsBy (is_own_clock model.now) (texts list.old.items) (texts list.new.items)) }
 {
-    add_names(set, model.clocks.as_slice())?;
-    add_controls(set, model.cells.as_slice())
+    add_names(list, model.clocks.as_slice())?;
+    add_controls(list, model.cells.as_slice())
 }
 
-/// Adds what the instances of a model bind to clock names of their models.
+/// Appends what the instances of a model bind to clock names of their models.
 fn add_all_bound<'d>(
-    set: &mut NameSet<'d>,
+    list: &mut Vec<&'d [u8]>,
     uses: &Uses<'d>,
     sets: &[NameSet<'d>],
     model: u32,
@@ -64,58 +65,57 @@ fn add_all_bound<'d>(
     requires sets { length sets.now ≡ length uses.now.models }
     requires insts { insts.now ≡ insts_of uses.now model }
     requires few { length insts.now < 2 ^ 32 }
-    ensures { OnOk result (GrowsBy (λ net. list_any (inst_binds uses.now (in_sets sets.now) net) insts.now) set.old set.new) }
+    ensures { OnOk result (GrowsBy (λ net. list_any (inst_binds uses.now (in_sets sets.now) net) insts.now) (texts list.old.items) (texts list.new.items)) }
 {
     for i in 0..insts.len() as u32 {
-        add_bound(set, uses, sets, model, i, &insts[i as usize])?;
+        add_bound(list, uses, sets, model, i, &insts[i as usize])?;
     }
     Ok(())
 }
 
-/// Adds some names.
-fn add_names<'d>(set: &mut NameSet<'d>, names: &'d [Name]) -> Result<(), AllocError>
-    ensures { OnOk result (GrowsBy (λ net. is_among net names.now) set.old set.new) }
+/// Appends some names.
+fn add_names<'d>(list: &mut Vec<&'d [u8]>, names: &'d [Name]) -> Result<(), AllocError>
+    ensures { OnOk result (GrowsBy (λ net. is_among net names.now) (texts list.old.items) (texts list.new.items)) }
 {
     for name in names {
-        add_name(set, name)?;
+        add_name(list, name)?;
     }
     Ok(())
 }
 
-/// Adds a name.
-fn add_name<'d>(set: &mut NameSet<'d>, name: &'d Name) -> Result<(), AllocError>
-    ensures { OnOk result (GrowsBy (λ net. bytes_eq net name.now) set.old set.new) }
+/// Appends a name.
+fn add_name<'d>(list: &mut Vec<&'d [u8]>, name: &'d Name) -> Result<(), AllocError>
+    ensures { OnOk result (GrowsBy (λ net. bytes_eq net name.now) (texts list.old.items) (texts list.new.items)) }
 {
-    set.add(name.as_slice())?;
-    Ok(())
+    push_name(list, name)
 }
 
-/// Adds the controls of latches.
-fn add_controls<'d>(set: &mut NameSet<'d>, cells: &'d [Cell]) -> Result<(), AllocError>
-    ensures { OnOk result (GrowsBy (λ net. list_any (is_clocked_by net) cells.now) set.old set.new) }
+/// Appends the controls of latches.
+fn add_controls<'d>(list: &mut Vec<&'d [u8]>, cells: &'d [Cell]) -> Result<(), AllocError>
+    ensures { OnOk result (GrowsBy (λ net. list_any (is_clocked_by net) cells.now) (texts list.old.items) (texts list.new.items)) }
 {
     for cell in cells {
-        add_control(set, cell)?;
+        add_control(list, cell)?;
     }
     Ok(())
 }
 
-/// Adds the control of a cell, where it has one.
-fn add_control<'d>(set: &mut NameSet<'d>, cell: &'d Cell) -> Result<(), AllocError>
-    ensures { OnOk result (GrowsBy (λ net. is_clocked_by net cell.now) set.old set.new) }
+/// Appends the control of a cell, where it has one.
+fn add_control<'d>(list: &mut Vec<&'d [u8]>, cell: &'d Cell) -> Result<(), AllocError>
+    ensures { OnOk result (GrowsBy (λ net. is_clocked_by net cell.now) (texts list.old.items) (texts list.new.items)) }
 {
     match cell {
         Cell::Latch {
             control: Some(control),
             ..
-        } => add_name(set, control),
+        } => add_name(list, control),
         _ => Ok(()),
     }
 }
 
-/// Adds what an instance binds to clock names of its model.
+/// Appends what an instance binds to clock names of its model.
 fn add_bound<'d>(
-    set: &mut NameSet<'d>,
+    list: &mut Vec<&'d [u8]>,
     uses: &Uses<'d>,
     sets: &[NameSet<'d>],
     model: u32,
@@ -124,38 +124,38 @@ fn add_bound<'d>(
 ) -> Result<(), AllocError>
     requires sets { length sets.now ≡ length uses.now.models }
     requires inst { slice_get (insts_of uses.now model) i ≡ Some inst.now }
-    ensures { OnOk result (GrowsBy (λ net. inst_binds uses.now (in_sets sets.now) net inst.now) set.old set.new) }
+    ensures { OnOk result (GrowsBy (λ net. inst_binds uses.now (in_sets sets.now) net inst.now) (texts list.old.items) (texts list.new.items)) }
 {
     match uses.model_of(model, i) {
-        Some(sub) => add_actuals(set, &sets[sub as usize], inst.binds.as_slice()),
+        Some(sub) => add_actuals(list, &sets[sub as usize], inst.binds.as_slice()),
         None => Ok(()),
     }
 }
 
-/// Adds the actuals that are bound to formals of a set.
+/// Appends the actuals that are bound to formals of a set.
 fn add_actuals<'d>(
-    set: &mut NameSet<'d>,
+    list: &mut Vec<&'d [u8]>,
     formals: &NameSet<'d>,
     binds: &'d [Bind],
 ) -> Result<(), AllocError>
-    ensures { OnOk result (GrowsBy (λ net. binds_to (λ formal. is_among formal formals.now) net binds.now) set.old set.new) }
+    ensures { OnOk result (GrowsBy (λ net. binds_to (λ formal. is_among formal formals.now) net binds.now) (texts list.old.items) (texts list.new.items)) }
 {
     for bind in binds {
-        add_actual(set, formals, bind)?;
+        add_actual(list, formals, bind)?;
     }
     Ok(())
 }
 
-/// Adds the actual of a binding whose formal is in a set.
+/// Appends the actual of a binding whose formal is in a set.
 fn add_actual<'d>(
-    set: &mut NameSet<'d>,
+    list: &mut Vec<&'d [u8]>,
     formals: &NameSet<'d>,
     bind: &'d Bind,
 ) -> Result<(), AllocError>
-    ensures { OnOk result (GrowsBy (λ net. bytes_eq bind.now.actual net && is_among bind.now.formal formals.now) set.old set.new) }
+    ensures { OnOk result (GrowsBy (λ net. bytes_eq bind.now.actual net && is_among bind.now.formal formals.now) (texts list.old.items) (texts list.new.items)) }
 {
     if formals.has(bind.formal.as_slice()) {
-        add_name(set, &bind.actual)
+        add_name(list, &bind.actual)
     } else {
         Ok(())
     }

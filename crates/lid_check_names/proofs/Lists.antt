@@ -10,7 +10,7 @@ use Rattle.std.proofs.lemmas.List.Elements.{filter-append}
 use Rattle.std.proofs.lemmas.List.Folds.{list_any-append}
 use Rattle.std.proofs.lemmas.List.Sums.{sum_by-append}
 use Rattle.lid_base.proofs.Lists.{same_bytes}
-use Rattle.lid_check_names.specs.declared.word.Word.{Word}
+use Rattle.lid_check_names.specs.declared.held.HeldName.{HeldName}
 use Rattle.lid_check_names.specs.Names.{is_among, firsts, with_name, texts, bytes_of}
 
 abbrev pub differs : List ℕ → List ℕ → Bool
@@ -64,35 +64,35 @@ firsts_more (x ∷ xs) n = ap (λ (ns : List (List ℕ)). x ∷ filter (differs 
         ∙ cons_cond (is_among n (firsts xs)) x (filter (differs x) (firsts xs)) (filter (differs x) (firsts xs) ++ n ∷ [])
         ∙ ap (λ (a : Bool). cond a (x ∷ filter (differs x) (firsts xs)) (x ∷ filter (differs x) (firsts xs) ++ n ∷ [])) (sym (is_among_without n x (firsts xs) e))
 
-pub is_among_words : (n : List ℕ) (words : List Word) → list_any (λ (w : Word). bytes_eq n (bytes_of w)) words ≡ is_among n (map bytes_of words)
-is_among_words n [] = refl
-is_among_words n (w ∷ words) = ap (λ (b : Bool). bytes_eq n (bytes_of w) || b) (is_among_words n words)
+pub is_among_held : (n : List ℕ) (held : List HeldName) → list_any (λ (w : HeldName). bytes_eq n (bytes_of w)) held ≡ is_among n (map bytes_of held)
+is_among_held n [] = refl
+is_among_held n (w ∷ held) = ap (λ (b : Bool). bytes_eq n (bytes_of w) || b) (is_among_held n held)
 
-prefix_words : (n : List ℕ) (words : List Word) → prefix_len (λ (w : Word). not (bytes_eq n (bytes_of w))) words ≡ prefix_len (λ (m : List ℕ). not (bytes_eq n m)) (map bytes_of words)
-prefix_words n [] = refl
-prefix_words n (w ∷ words) = ap (λ (k : ℕ). cond (not (bytes_eq n (bytes_of w))) (1 + k) 0) (prefix_words n words)
+prefix_held : (n : List ℕ) (held : List HeldName) → prefix_len (λ (w : HeldName). not (bytes_eq n (bytes_of w))) held ≡ prefix_len (λ (m : List ℕ). not (bytes_eq n m)) (map bytes_of held)
+prefix_held n [] = refl
+prefix_held n (w ∷ held) = ap (λ (k : ℕ). cond (not (bytes_eq n (bytes_of w))) (1 + k) 0) (prefix_held n held)
 
 abbrev pub within : ℕ → ℕ → Option ℕ
 within k len = cond (nat_lt k len) (Some k) None
 
-pub position_words : (n : List ℕ) (words : List Word) → position (λ (w : Word). bytes_eq n (bytes_of w)) words ≡ position (bytes_eq n) (map bytes_of words)
-position_words n words =
-    let long : length (map bytes_of words) ≡ length words = length-map words _ in
-    ap (λ (k : ℕ). within k (length words)) (prefix_words n words)
-    ∙ ap (within (prefix_len (λ (m : List ℕ). not (bytes_eq n m)) (map bytes_of words))) (sym long)
+pub position_held : (n : List ℕ) (held : List HeldName) → position (λ (w : HeldName). bytes_eq n (bytes_of w)) held ≡ position (bytes_eq n) (map bytes_of held)
+position_held n held =
+    let long : length (map bytes_of held) ≡ length held = length-map held _ in
+    ap (λ (k : ℕ). within k (length held)) (prefix_held n held)
+    ∙ ap (within (prefix_len (λ (m : List ℕ). not (bytes_eq n m)) (map bytes_of held))) (sym long)
 
 pub texts_append : (xs ys : List (Bor (List ℕ))) → texts (xs ++ ys) ≡ texts xs ++ texts ys
 texts_append xs ys = map-append _ xs ys
 
 -- a set that grows by a name
-pub words_insert : (words : List Word) (w : Word) → map bytes_of (if list_any (λ (v : Word). bytes_eq (bytes_of w) (bytes_of v)) words then words else words ++ w ∷ []) ≡ with_name (map bytes_of words) (bytes_of w)
-words_insert words w = by (list_any (λ (v : Word). bytes_eq (bytes_of w) (bytes_of v)) words) (is_among (bytes_of w) (map bytes_of words)) (is_among_words (bytes_of w) words)
+pub held_insert : (held : List HeldName) (w : HeldName) → map bytes_of (if list_any (λ (v : HeldName). bytes_eq (bytes_of w) (bytes_of v)) held then held else held ++ w ∷ []) ≡ with_name (map bytes_of held) (bytes_of w)
+held_insert held w = by (list_any (λ (v : HeldName). bytes_eq (bytes_of w) (bytes_of v)) held) (is_among (bytes_of w) (map bytes_of held)) (is_among_held (bytes_of w) held)
   where
-    by : (a b : Bool) → a ≡ b → map bytes_of (cond a words (words ++ w ∷ [])) ≡ cond b (map bytes_of words) (map bytes_of words ++ bytes_of w ∷ [])
+    by : (a b : Bool) → a ≡ b → map bytes_of (cond a held (held ++ w ∷ [])) ≡ cond b (map bytes_of held) (map bytes_of held ++ bytes_of w ∷ [])
     by true true e = refl
     by true false e = cc
     by false true e = cc
-    by false false e = map-append bytes_of words (w ∷ [])
+    by false false e = map-append bytes_of held (w ∷ [])
 
 -- one more borrowed name of a list
 pub texts_more : (refs : List (Bor (List ℕ))) (i : ℕ) (d : Bor (List ℕ)) → i < length refs → texts (take (i + 1) refs) ≡ texts (take i refs) ++ (get_or refs i d).now ∷ []

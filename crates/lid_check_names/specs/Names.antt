@@ -4,7 +4,7 @@ use denote.Ref.{Bor}
 use Rattle.lid_design.specs.Models.{is_twice}
 use Rattle.std.specs.Prelude.{◌≡◌, ℕ, if◌then◌else◌, List, [], ◌∷◌, ◌++◌, map}
 use Rattle.indexmap.specs.IndexSet.{IndexSet}
-use Rattle.lid_check_names.specs.declared.word.Word.{Word}
+use Rattle.lid_check_names.specs.declared.held.HeldName.{HeldName}
 pub use Rattle.lid_design.specs.Columns.{is_among}
 pub use Rattle.lid_design.specs.Models.{firsts}
 
@@ -13,11 +13,11 @@ abbrev pub texts : List (Bor (List ℕ)) → List (List ℕ)
 texts refs = map (λ (r : Bor (List ℕ)). r.now) refs
 
 -- the bytes of a name as a set keeps it
-abbrev pub bytes_of : Word → List ℕ
-bytes_of word = word.bytes.now
+abbrev pub bytes_of : HeldName → List ℕ
+bytes_of held = held.bytes.now
 
 -- the names of a set, in order
-abbrev pub names_of : {S : Type 0} → IndexSet Word S → List (List ℕ)
+abbrev pub names_of : {S : Type 0} → IndexSet HeldName S → List (List ℕ)
 names_of set = map bytes_of set.keys
 
 -- a list with a name added after the others, unless it is there already

@@ -2,13 +2,13 @@
 //! the order in which a model gives them.
 #![tactic(auto)]
 
+mod hashers;
+mod held;
 mod listing;
-mod seed;
 mod set;
-mod word;
 
 pub use listing::{
-    list_formals, list_occurrences, model_at, out_of, push_name, push_names, push_outs, push_reads,
-    set_of, tally_of,
+    list_formals, list_occurrences, model_at, out_of, push_name, push_names, push_outs, push_ports,
+    push_reads, set_of, tally_of,
 };
 pub use set::{NameSet, NameTally, find_twice, tally_names};

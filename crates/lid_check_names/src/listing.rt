@@ -24,7 +24,7 @@ pub fn list_occurrences<'d>(alloc: Global, model: &'d Model) -> Result<Vec<&'d [
 }
 
 /// Appends the names of the lists of a model.
-fn push_ports<'d>(list: &mut Vec<&'d [u8]>, model: &'d Model) -> Result<(), AllocError>
+pub fn push_ports<'d>(list: &mut Vec<&'d [u8]>, model: &'d Model) -> Result<(), AllocError>
     ensures { OnOk result (texts list.new.items ≡ texts list.old.items ++ model.now.inputs ++ model.now.outputs ++ model.now.clocks) }
 {
     push_names(list, model.inputs.as_slice())?;

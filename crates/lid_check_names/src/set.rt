@@ -4,8 +4,8 @@ ghost use Rattle.std.specs.Str.{bytes_eq};
 ghost use Rattle.lid_design.specs.Models.{is_twice};
 ghost use Rattle.lid_check_names.specs.Names.{is_among, firsts, with_name, texts, names_of, IsTally};
 
-use crate::seed::Seeded;
-use crate::word::Word;
+use crate::hashers::Hashers;
+use crate::held::HeldName;
 use indexmap::IndexSet;
 use std::alloc::{AllocError, Global};
 use std::marker::Model;
@@ -14,7 +14,7 @@ use std::marker::Model;
 /// order in which they were added.
 #[derive(Drop)]
 pub struct NameSet<'a> {
-    names: IndexSet<Word<'a>, Seeded>,
+    names: IndexSet<HeldName<'a>, Hashers>,
 }
 
 impl<'a> Model for NameSet<'a> {
@@ -31,15 +31,15 @@ impl<'a> NameSet<'a> {
     pub fn new(alloc: Global) -> NameSet<'a>
         ensures { result ≡ [] }
     {
-        NameSet::by(alloc, Seeded::plain())
+        NameSet::by(alloc, Hashers::plain())
     }
 
     /// A set without names, that hashes by these hashers.
-    fn by(alloc: Global, seeded: Seeded) -> NameSet<'a>
+    fn by(alloc: Global, hashers: Hashers) -> NameSet<'a>
         ensures { result ≡ [] }
     {
         NameSet {
-            names: IndexSet::with_hasher(alloc, seeded),
+            names: IndexSet::with_hasher(alloc, hashers),
         }
     }
 
@@ -47,7 +47,7 @@ impl<'a> NameSet<'a> {
     pub fn collect(alloc: Global, names: &[&'a [u8]]) -> Result<NameSet<'a>, AllocError>
         ensures { IfOk result (λ set. set ≡ firsts (texts names.now)) }
     {
-        let mut set = NameSet::by(alloc, Seeded::of(names));
+        let mut set = NameSet::by(alloc, Hashers::of(names));
         for name in names {
             set.add(name)?;
         }
@@ -105,9 +105,9 @@ pub struct NameTally<'a> {
 pub fn tally_names<'a>(alloc: Global, names: &[&'a [u8]]) -> Result<NameTally<'a>, AllocError>
     ensures { IfOk result (λ tally. IsTally (texts names.now) tally.all tally.twice) }
 {
-    let seeded = Seeded::of(names);
-    let mut all = NameSet::by(alloc, seeded);
-    let mut twice = NameSet::by(alloc, seeded);
+    let hashers = Hashers::of(names);
+    let mut all = NameSet::by(alloc, hashers);
+    let mut twice = NameSet::by(alloc, hashers);
     for name in names {
         note(&mut all, &mut twice, name)?;
     }
@@ -139,34 +139,34 @@ fn note<'a>(
 }
 
 /// Adds a name after the others, unless it is there already, and answers whether it was new.
-fn add_to<'a>(set: &mut IndexSet<Word<'a>, Seeded>, name: &'a [u8]) -> Result<bool, AllocError>
+fn add_to<'a>(set: &mut IndexSet<HeldName<'a>, Hashers>, name: &'a [u8]) -> Result<bool, AllocError>
     ensures new { IfOk result (λ new. new ≡ not (is_among name.entry.now (names_of set.old))) }
     ensures added { OnOk result (names_of set.new ≡ with_name (names_of set.old) name.entry.now) }
 {
-    let (_, new) = set.insert_full(Word { bytes: name })?;
+    let (_, new) = set.insert_full(HeldName { bytes: name })?;
     Ok(new)
 }
 
 /// Whether a name is in a set.
-fn is_in(set: &IndexSet<Word<'_>, Seeded>, name: &[u8]) -> bool
+fn is_in(set: &IndexSet<HeldName<'_>, Hashers>, name: &[u8]) -> bool
     ensures { result ≡ is_among name.now (names_of set.now) }
 {
-    set.contains(&Word { bytes: name })
+    set.contains(&HeldName { bytes: name })
 }
 
 /// The place of a name in a set.
-fn place_in(set: &IndexSet<Word<'_>, Seeded>, name: &[u8]) -> Option<usize>
+fn place_in(set: &IndexSet<HeldName<'_>, Hashers>, name: &[u8]) -> Option<usize>
     ensures { result ≡ position (bytes_eq name.now) (names_of set.now) }
 {
-    set.get_index_of(&Word { bytes: name })
+    set.get_index_of(&HeldName { bytes: name })
 }
 
 /// The name at a place of a set.
-fn name_in<'a>(set: &IndexSet<Word<'a>, Seeded>, place: usize) -> Option<&'a [u8]>
+fn name_in<'a>(set: &IndexSet<HeldName<'a>, Hashers>, place: usize) -> Option<&'a [u8]>
     ensures { option_map (λ (r : Bor (List ℕ)). r.now) result ≡ slice_get (names_of set.now) place }
 {
     match set.get_index(place) {
-        Some(word) => Some(word.bytes),
+        Some(held) => Some(held.bytes),
         None => None,
     }
 }

@@ -6,7 +6,7 @@ ghost use Rattle.lid_check_ports.specs.Formals.{name_behind};
 ghost use Rattle.lid_check_rules.specs.Told.{shown_of};
 
 use crate::told::{NameFault, Told};
-use lid_check_names::{NameTally, model_at, push_names, tally_of};
+use lid_check_names::{NameTally, model_at, push_ports, tally_of};
 use lid_design::{Design, Model};
 use std::alloc::{AllocError, Global};
 
@@ -101,9 +101,7 @@ fn list_ports<'d>(alloc: Global, model: &'d Model) -> Result<Vec<&'d [u8]>, Allo
     ensures { IfOk result (λ list. texts list.items ≡ model.now.inputs ++ model.now.outputs ++ model.now.clocks) }
 {
     let mut list = Vec::new(alloc);
-    push_names(&mut list, model.inputs.as_slice())?;
-    push_names(&mut list, model.outputs.as_slice())?;
-    push_names(&mut list, model.clocks.as_slice())?;
+    push_ports(&mut list, model)?;
     Ok(list)
 }
 

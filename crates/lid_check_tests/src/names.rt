@@ -1,4 +1,5 @@
 use lid_check_names::{NameSet, find_twice};
+use std::alloc::{AllocError, Global};
 use std::test::Fail;
 
 /// Whether a set is that of b, a and c, in this order.
@@ -29,5 +30,34 @@ fn names_that_come_again_are_found(rt: HostRuntime) -> Result<(), Fail> {
     let names: [&[u8]; 6] = [b"b", b"a", b"b", b"c", b"a", b"b"];
     let twice = find_twice(rt.alloc(), &names)?;
     assert!(rt; is_pair(&twice));
+    Ok(())
+}
+
+/// What a text begins with, from nothing on, but not the whole text.
+fn beginnings(alloc: Global, text: &[u8]) -> Result<Vec<&[u8]>, AllocError> {
+    let mut names = Vec::new(alloc);
+    for count in 0..text.len() {
+        names.push(&text[..count])?;
+    }
+    Ok(names)
+}
+
+/// Whether a set has what a text begins with, each beginning at the place of its length, and not the whole text.
+fn has_beginnings(set: &NameSet<'_>, text: &[u8]) -> bool {
+    for count in 0..text.len() {
+        if set.place_of(&text[..count]) != Some(count) {
+            return false;
+        }
+    }
+    set.len() == text.len() && !set.has(text)
+}
+
+/// So many names hash by a number of their own.
+#[test]
+fn of_many_names_each_is_kept_where_it_first_came(rt: HostRuntime) -> Result<(), Fail> {
+    let text = Vec::from_elem(rt.alloc(), b'a', 300)?;
+    let names = beginnings(rt.alloc(), text.as_slice())?;
+    let set = NameSet::collect(rt.alloc(), names.as_slice())?;
+    assert!(rt; has_beginnings(&set, text.as_slice()));
     Ok(())
 }

@@ -9,4 +9,4 @@ mod walks;
 pub use graph::{Edge, Graph};
 pub use pairing::is_paired;
 pub use union_find::components;
-pub use walks::{is_closed_walk, walk_start};
+pub use walks::{is_closed_walk, is_walk, walk_start};

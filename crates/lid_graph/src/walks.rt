@@ -17,7 +17,7 @@ pub fn walk_start(graph: &Graph, walk: &[u32]) -> u32
 }
 
 /// Whether edges lead from one transition to another, each beginning where the one before ends.
-fn is_walk(graph: &Graph, from: u32, walk: &[u32], to: u32) -> bool
+pub fn is_walk(graph: &Graph, from: u32, walk: &[u32], to: u32) -> bool
     ensures { IsTrue result ↔ IsWalk graph.now from walk.now to }
 {
     let edges = graph.edges.as_slice();

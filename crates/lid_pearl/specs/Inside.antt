@@ -41,8 +41,8 @@ pub record IsOrdered (nets : ℕ) (ins outs : List ℕ) (latches : List FlatLatc
 
 -- the nets that latches give, and those that they read, latch by latch
 pub record AreLatchNets (latches : List FlatLatch) (outs inputs : List ℕ) : Type 0 where
-  pub given : outs ≡ held latches
-  pub read : inputs ≡ map latch_input latches
+  pub held : outs ≡ held latches
+  pub taken : inputs ≡ map latch_input latches
 
 -- bits that are right at early nets in each row that has the latches' bits
 abbrev pub AreSettled : List FlatLatch → Program → List Bool → List Bool → Type 0

@@ -20,8 +20,8 @@ use std::marker::Model;
 #[derive(Drop)]
 struct Latches {
     all: Vec<FlatLatch>,
-    outs: Vec<u32>,
-    inputs: Vec<u32>,
+    held: Vec<u32>,
+    taken: Vec<u32>,
 }
 
 /// The nets of a pearl: how many there are, those of its inputs and outputs, and its latches.
@@ -74,7 +74,7 @@ impl Model for Pearl {
       state = p.row.state.items;
     } };
 
-    ghost invariant = { λ p. AreLatchNets p.shape.latches.all.items p.shape.latches.outs.items p.shape.latches.inputs.items
+    ghost invariant = { λ p. AreLatchNets p.shape.latches.all.items p.shape.latches.held.items p.shape.latches.taken.items
         × ArePearlFields p.shape.nets p.shape.ins.items p.shape.outs.items p.shape.latches.all.items p.plan.early p.plan.late
         p.row.state.items p.row.bits.items };
 }
@@ -98,7 +98,7 @@ impl Pearl {
             flat.latches.as_slice(),
         )?;
         let plan = plan_of(alloc, flat)?;
-        let row = first_row(alloc, flat, shape.latches.outs.as_slice(), &plan.early)?;
+        let row = first_row(alloc, flat, shape.latches.held.as_slice(), &plan.early)?;
         Ok(Pearl { shape, plan, row })
     }
 
@@ -173,7 +173,7 @@ fn run(
     inputs: &[bool],
     into: &mut [bool],
 )
-    requires latches { AreLatchNets shape.now.latches.all.items shape.now.latches.outs.items shape.now.latches.inputs.items }
+    requires latches { AreLatchNets shape.now.latches.all.items shape.now.latches.held.items shape.now.latches.taken.items }
     requires kept { ArePearlFields shape.now.nets shape.now.ins.items shape.now.outs.items shape.now.latches.all.items plan.now.early plan.now.late
         state.old bits.old }
     requires inputs { length inputs.now ≡ length shape.now.ins.items }
@@ -188,8 +188,8 @@ fn run(
 {
     put_bits(bits, shape.ins.as_slice(), inputs);
     settle_by_width(&plan.late, bits);
-    take_bits(bits, shape.latches.inputs.as_slice(), state);
-    settle_state(shape.latches.outs.as_slice(), &plan.early, state, bits);
+    take_bits(bits, shape.latches.taken.as_slice(), state);
+    settle_state(shape.latches.held.as_slice(), &plan.early, state, bits);
     take_bits(bits, shape.outs.as_slice(), into);
 }
 
@@ -205,7 +205,7 @@ fn shape_of(
     ensures ins { IfOk result (λ shape. shape.ins.items ≡ ins.now) }
     ensures outs { IfOk result (λ shape. shape.outs.items ≡ outs.now) }
     ensures latches { IfOk result (λ shape. shape.latches.all.items ≡ latches.now) }
-    ensures sides { IfOk result (λ shape. AreLatchNets shape.latches.all.items shape.latches.outs.items shape.latches.inputs.items) }
+    ensures sides { IfOk result (λ shape. AreLatchNets shape.latches.all.items shape.latches.held.items shape.latches.taken.items) }
 {
     let ins = copy_of(alloc, ins)?;
     let outs = copy_of(alloc, outs)?;
@@ -221,34 +221,34 @@ fn shape_of(
 /// Some latches, with the nets that they give and read.
 fn latches_of(alloc: Global, latches: &[FlatLatch]) -> Result<Latches, AllocError>
     ensures all { IfOk result (λ made. made.all.items ≡ latches.now) }
-    ensures sides { IfOk result (λ made. AreLatchNets made.all.items made.outs.items made.inputs.items) }
+    ensures sides { IfOk result (λ made. AreLatchNets made.all.items made.held.items made.taken.items) }
 {
     let all = copy_of(alloc, latches)?;
-    let outs = outs_of(alloc, latches)?;
-    let inputs = inputs_of(alloc, latches)?;
-    Ok(Latches { all, outs, inputs })
+    let held = held_of(alloc, latches)?;
+    let taken = taken_of(alloc, latches)?;
+    Ok(Latches { all, held, taken })
 }
 
 /// The nets that latches give.
-fn outs_of(alloc: Global, latches: &[FlatLatch]) -> Result<Vec<u32>, AllocError>
-    ensures { IfOk result (λ outs. outs.items ≡ held latches.now) }
+fn held_of(alloc: Global, latches: &[FlatLatch]) -> Result<Vec<u32>, AllocError>
+    ensures { IfOk result (λ nets. nets.items ≡ held latches.now) }
 {
-    let mut outs = Vec::with_capacity(alloc, latches.len())?;
+    let mut nets = Vec::with_capacity(alloc, latches.len())?;
     for latch in latches {
-        outs.push(latch.out)?;
+        nets.push(latch.out)?;
     }
-    Ok(outs)
+    Ok(nets)
 }
 
 /// The nets that latches read.
-fn inputs_of(alloc: Global, latches: &[FlatLatch]) -> Result<Vec<u32>, AllocError>
-    ensures { IfOk result (λ inputs. inputs.items ≡ map latch_input latches.now) }
+fn taken_of(alloc: Global, latches: &[FlatLatch]) -> Result<Vec<u32>, AllocError>
+    ensures { IfOk result (λ nets. nets.items ≡ map latch_input latches.now) }
 {
-    let mut inputs = Vec::with_capacity(alloc, latches.len())?;
+    let mut nets = Vec::with_capacity(alloc, latches.len())?;
     for latch in latches {
-        inputs.push(latch.input)?;
+        nets.push(latch.input)?;
     }
-    Ok(inputs)
+    Ok(nets)
 }
 
 /// The covers of a flat part, early and late ones, by level and width.

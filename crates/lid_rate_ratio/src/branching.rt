@@ -138,7 +138,8 @@ pub fn tree_by(
     guess: Branches,
 ) -> Result<Branches, AllocError>
     requires { CanSpan graph.now root.start root.q root.first }
-    ensures { IfOk result (λ tree. SpansFrom graph.now root.start root.q root.first tree.via tree.lead tree.depth) }
+    ensures is { IfOk result (λ tree. SpansFrom graph.now root.start root.q root.first tree.via tree.lead tree.depth) }
+    ensures taken { IfOk result (λ tree. SpansFrom graph.now root.start root.q root.first guess.via guess.lead guess.depth → tree ≡ guess) }
 {
     if spans(graph, &guess, root) {
         return Ok(guess);

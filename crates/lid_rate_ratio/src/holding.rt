@@ -2,6 +2,7 @@
 
 ghost use Rattle.std.specs.Prelude.{◌≡◌, ◌*◌, ◌<◌, ◌≤◌, ◌^◌, ◌↔◌, length, IsTrue, IfOk};
 ghost use Rattle.lid_rate_ratio.specs.Components.{IsSmallGraph};
+ghost use Rattle.lid_rate_ratio.specs.declared.holding.Bound.TheVariants.{At};
 ghost use Rattle.lid_rate_ratio.specs.Bounds.{MeetRule, IsLowerWalk, Bounds};
 
 use crate::bellman_ford::{Settled, find_potentials};
@@ -76,7 +77,8 @@ pub fn holds_by(
     requires graph { IsSmallGraph graph.now }
     requires p { aim.p ≤ 2 ^ 22 }
     requires q { aim.q ≤ 2 ^ 18 }
-    ensures { IfOk result (Bounds graph.now aim.p aim.q) }
+    ensures is { IfOk result (Bounds graph.now aim.p aim.q) }
+    ensures taken { IfOk result (λ b. MeetRule graph.now aim.p aim.q guess.labels → b ≡ At guess.labels) }
 {
     if meet_rule(graph, guess.labels.as_slice(), aim) {
         let Labels { labels, .. } = guess;

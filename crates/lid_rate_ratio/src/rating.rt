@@ -4,6 +4,7 @@
 ghost use Rattle.std.specs.Prelude.{◌≡◌, ◌<◌, ◌^◌, length, IfOk};
 ghost use Rattle.lid_rate_ratio.specs.Components.{IsSmallGraph, IsLoop, HasRate};
 ghost use Rattle.lid_rate_ratio.specs.Numbers.{AreAllNumbers};
+ghost use Rattle.lid_rate_ratio.specs.Tests.{IsRightGuess};
 
 use crate::cycle_ratio::{Rate, least_ratio};
 use crate::judging::judge;
@@ -55,7 +56,8 @@ fn taken(ratio: Ratio, guess: Guess) -> Rate
 pub fn rate_by(alloc: Global, graph: &Graph, first: u32, guess: Guess) -> Result<Rate, AllocError>
     requires graph { IsSmallGraph graph.now }
     requires first { IsLoop graph.now first }
-    ensures { IfOk result (λ rate. HasRate graph.now rate.ratio.p rate.ratio.q rate.walk rate.lags) }
+    ensures is { IfOk result (λ rate. HasRate graph.now rate.ratio.p rate.ratio.q rate.walk rate.lags) }
+    ensures taken { IfOk result (λ rate. IsRightGuess graph.now guess → (rate.walk ≡ guess.walk) × (rate.lags ≡ guess.lags)) }
 {
     match judge(alloc, graph, &guess)? {
         Some(ratio) => Ok(taken(ratio, guess)),

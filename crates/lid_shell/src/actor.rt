@@ -157,7 +157,7 @@ impl<'r> Actor<'r> {
             → ServesAll m st v (B.ends board.old) → IsExact m st v result }
         ensures moves { Moves self.old.desk.ins.items self.old.desk.outs.items (missed_end result) (B.ends board.old) (B.ends board.new) }
         ensures notes { NotesOwn self.old (B.steps board.old) (B.steps board.new) }
-        ensures noted { NotesStep (made_end result) (B.steps board.old) (B.steps board.new) }
+        ensures once { NotesStep (made_end result) (B.steps board.old) (B.steps board.new) }
         ensures late { MissesLate (B.ends board.old) result }
         ensures done { result ≡ answer.Done → (self.new ≡ self.old) × (board.new ≡ board.old) }
         ensures same { B.identity board.new ≡ B.identity board.old }

@@ -69,7 +69,7 @@ impl Actor<'_> {
         ensures goes { MakesNext (Take i) self.old (B.ends board.old) (B.stands board.old) result self.new (B.ends board.new) (B.stands board.new) }
         ensures moves { Moves self.old.desk.ins.items self.old.desk.outs.items None (B.ends board.old) (B.ends board.new) }
         ensures notes { NotesOne self.old.desk.ins.items self.old.desk.outs.items (B.steps board.old) (B.steps board.new) }
-        ensures noted { NotesStep (made_end result) (B.steps board.old) (B.steps board.new) }
+        ensures once { NotesStep (made_end result) (B.steps board.old) (B.steps board.new) }
         ensures same { B.identity board.new ≡ B.identity board.old }
     {
         let station = self.desk.ins.as_slice()[i];
@@ -88,7 +88,7 @@ impl Actor<'_> {
         ensures goes { MakesNext (Put j) self.old (B.ends board.old) (B.stands board.old) result self.new (B.ends board.new) (B.stands board.new) }
         ensures moves { Moves self.old.desk.ins.items self.old.desk.outs.items None (B.ends board.old) (B.ends board.new) }
         ensures notes { NotesOne self.old.desk.ins.items self.old.desk.outs.items (B.steps board.old) (B.steps board.new) }
-        ensures noted { NotesStep (made_end result) (B.steps board.old) (B.steps board.new) }
+        ensures once { NotesStep (made_end result) (B.steps board.old) (B.steps board.new) }
         ensures same { B.identity board.new ≡ B.identity board.old }
     {
         self.make_ready(j);

@@ -18,7 +18,7 @@ impl Desk {
         ensures exact { LooksExactly (LookIn i) self.old (B.ends board.old) (B.stands board.old) result }
         ensures moves { Moves self.old.ins.items self.old.outs.items (missed_end result) (B.ends board.old) (B.ends board.new) }
         ensures notes { NotesOne self.old.ins.items self.old.outs.items (B.steps board.old) (B.steps board.new) }
-        ensures noted { NotesStep (made_end result) (B.steps board.old) (B.steps board.new) }
+        ensures once { NotesStep (made_end result) (B.steps board.old) (B.steps board.new) }
         ensures late { MissesLate (B.ends board.old) result }
         ensures same { B.identity board.new ≡ B.identity board.old }
     {
@@ -43,7 +43,7 @@ impl Desk {
         ensures exact { LooksExactly (LookOut j) self.old (B.ends board.old) (B.stands board.old) result }
         ensures moves { Moves self.old.ins.items self.old.outs.items (missed_end result) (B.ends board.old) (B.ends board.new) }
         ensures notes { NotesOne self.old.ins.items self.old.outs.items (B.steps board.old) (B.steps board.new) }
-        ensures noted { NotesStep (made_end result) (B.steps board.old) (B.steps board.new) }
+        ensures once { NotesStep (made_end result) (B.steps board.old) (B.steps board.new) }
         ensures late { MissesLate (B.ends board.old) result }
         ensures same { B.identity board.new ≡ B.identity board.old }
     {

@@ -30,7 +30,7 @@ impl Desk {
             → IsAbout m v q (Take i) → HasTaken m v q i result self.new (B.ends board.new) (B.stands board.new) }
         ensures moves { Moves self.old.ins.items self.old.outs.items None (B.ends board.old) (B.ends board.new) }
         ensures notes { NotesOne self.old.ins.items self.old.outs.items (B.steps board.old) (B.steps board.new) }
-        ensures noted { NotesStep (Some (drain (slice_index_or self.old.ins.items i 0))) (B.steps board.old) (B.steps board.new) }
+        ensures once { NotesStep (Some (drain (slice_index_or self.old.ins.items i 0))) (B.steps board.old) (B.steps board.new) }
         ensures same { B.identity board.new ≡ B.identity board.old }
     {
         let token = board.take(self.ins.as_slice()[i]);
@@ -47,7 +47,7 @@ impl Desk {
             → HasPut m v q j result self.new (B.ends board.new) (B.stands board.new) }
         ensures moves { Moves self.old.ins.items self.old.outs.items None (B.ends board.old) (B.ends board.new) }
         ensures notes { NotesOne self.old.ins.items self.old.outs.items (B.steps board.old) (B.steps board.new) }
-        ensures noted { NotesStep (Some (fill (slice_index_or self.old.outs.items j 0))) (B.steps board.old) (B.steps board.new) }
+        ensures once { NotesStep (Some (fill (slice_index_or self.old.outs.items j 0))) (B.steps board.old) (B.steps board.new) }
         ensures same { B.identity board.new ≡ B.identity board.old }
     {
         actors_go_by_rules();

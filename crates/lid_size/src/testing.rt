@@ -1,13 +1,13 @@
 //! The test of a guess of capacities: closed walks show that a station with one place less, and 16 for all
 //! later ones, does not reach.
 
-ghost use Rattle.std.specs.Prelude.{◌≡◌, ℕ, ◌<◌, List, length, IsTrue, IfOk, IfSome};
+ghost use Rattle.std.specs.Prelude.{◌≡◌, ℕ, ◌*◌, ◌<◌, ◌↔◌, List, length, get_or, IsTrue, IfOk, IfSome};
 ghost use Rattle.std.specs.List.{All};
 ghost use Rattle.lid_base.specs.Each.{from_each};
 ghost use Rattle.lid_graph.specs.declared.graph.Graph.{Graph};
 ghost use Rattle.lid_graph.specs.Rateable.{IsRateable};
 ghost use Rattle.lid_stations.specs.Placements.{IsCapacity};
-ghost use Rattle.lid_size_forward.specs.ForwardParts.{AreForwardRatios};
+ghost use Rattle.lid_size_forward.specs.ForwardParts.{no_ratio, AreForwardRatios};
 ghost use Rattle.lid_size.specs.Choices.{followed};
 ghost use Rattle.lid_size.specs.Testing.{IsRefuted, IsWayTo, AreWays, empty_way, IsTightNext, AreTight};
 
@@ -21,7 +21,8 @@ use std::alloc::{AllocError, Global};
 /// Whether a closed walk is below the ratio that is wanted.
 fn is_below(wants: &[Ratio], way: Way) -> bool
     requires known { (g : Graph) × (n : ℕ) × (caps : List ℕ) × IsWayTo g n caps way.from way × AreForwardRatios g n wants.now }
-    ensures { (g : Graph) (n : ℕ) (caps : List ℕ) → AreForwardRatios g n wants.now → IsWayTo g n caps way.from way → IsTrue result
+    ensures exact { IsTrue result ↔ ((get_or wants.now way.from no_ratio).q * way.tokens < (get_or wants.now way.from no_ratio).p * way.edges) }
+    ensures refuted { (g : Graph) (n : ℕ) (caps : List ℕ) → AreForwardRatios g n wants.now → IsWayTo g n caps way.from way → IsTrue result
         → IsRefuted g n wants.now caps }
 {
     let want = wants[way.from as usize];

@@ -1,7 +1,7 @@
 //! Walks of a marking that are lengthened edge by edge, where stations have some capacities, the next one
 //! another, and all later ones 16.
 
-ghost use Rattle.std.specs.Prelude.{◌≡◌, ℕ, ◌<◌, ◌≤◌, List, length, slice_index_or, IfOk, IfSome};
+ghost use Rattle.std.specs.Prelude.{◌≡◌, ℕ, ◌<◌, ◌≤◌, List, length, slice_index_or, IsNone, IfOk, IfSome};
 ghost use Rattle.std.specs.List.{All};
 ghost use Rattle.lid_base.specs.Each.{from_each};
 ghost use Rattle.lid_graph.specs.declared.graph.Graph.{Graph};
@@ -69,7 +69,8 @@ fn lengthened(graph: &Graph, count: u32, done: &[u32], next: u32, way: Way, k: u
     requires next { IsCapacity next }
     requires within { k < length graph.now.edges }
     requires way { IsWayTo graph.now count (followed count done.now next) (edge_at graph.now k).from way }
-    ensures { IfSome result (IsWayTo graph.now count (followed count done.now next) (edge_at graph.now k).to) }
+    ensures some { IfSome result (IsWayTo graph.now count (followed count done.now next) (edge_at graph.now k).to) }
+    ensures none { IsNone result → 262144 ≤ way.edges }
 {
     if way.edges >= 262_144 {
         return None;

@@ -85,6 +85,13 @@ u1 u0 0 1 16 16\n",
     ),
 ];
 
+/// Stations of the generated system, more than a hundred each time. First its loop has twelve of them, and unequal ways to
+/// `u1` and to the sink want room; then it has 106.
+static MANY: [&[u8]; 2] = [
+    b"lid-stations 1\nin u1 0 64\nu0 u1 0 2\nu0 out 0 30\nu1 u0 0 8\n",
+    b"lid-stations 1\nin u1 0 64\nu0 u1 0 40\nu0 out 0 64\nu1 u0 0 64\n",
+];
+
 /// For each station the edges of ways that are told of it, and those that close them, and where they end: closed walks,
 /// each the only one without a transition twice that stands against one place less, with 16 for all later stations. Of
 /// the second in the generated system, which begins with five edges of the first, the others are told.
@@ -148,6 +155,17 @@ fn is_reached_by_guess(alloc: Global, case: Reached) -> bool {
     };
     match size_by_guess(alloc, &placed.system, &placed.placement) {
         Ok(Some(placement)) => is_placed(&placement, relays, caps),
+        _ => false,
+    }
+}
+
+/// Whether the guess alone answers something.
+fn is_sized_by_guess(alloc: Global, netlist: &[u8], stations: &[u8]) -> bool {
+    let Some(placed) = placed_of(alloc, netlist, stations) else {
+        return false;
+    };
+    match size_by_guess(alloc, &placed.system, &placed.placement) {
+        Ok(Some(_)) => true,
         _ => false,
     }
 }
@@ -308,6 +326,9 @@ fn the_test_of_the_guess_accepts_them(rt: HostRuntime) {
     let (netlist, stations, _, _, caps) = WIDE[2];
     let case: Reached = (netlist, stations, &[0, 2, 0, 0, 1, 1], caps);
     assert!(rt; is_reached_by_guess(rt.alloc(), case));
+    for text in &MANY {
+        assert!(rt; is_sized_by_guess(rt.alloc(), MADE, *text));
+    }
 }
 
 #[test]

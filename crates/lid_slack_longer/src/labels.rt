@@ -2,10 +2,10 @@
 //! that shows that it is not. Both are read off the present marked graph, and take no memory.
 
 ghost use Rattle.std.specs.Prelude.{◌≡◌, ℕ, ◌+◌, ◌*◌, ◌<◌, ◌≤◌, ◌↔◌, length, IsTrue};
-ghost use Rattle.lid_graph.specs.Walks.{edge_at, IsWalk};
+ghost use Rattle.lid_graph.specs.Walks.{edge_at};
 ghost use Rattle.lid_slack_longer.specs.Labels.{label_at, IsEdgeAllowed, IsChainAllowed, IsElsewhere, AreKeepingLabels, IsWay};
 
-use lid_graph::{Edge, Graph};
+use lid_graph::{Edge, Graph, is_walk};
 
 /// A station with relay stations of capacity 2 in a row after it.
 #[derive(Clone, Copy)]
@@ -121,24 +121,6 @@ pub fn are_labels(
     }
     is_chain_allowed(graph, chain, a, b, labels)
         && are_others_allowed(graph, chain.station, a, b, labels)
-}
-
-/// Whether edges lead from one transition to another, each beginning where the one before ends.
-fn is_walk(graph: &Graph, from: u32, walk: &[u32], to: u32) -> bool
-    ensures { IsTrue result ↔ IsWalk graph.now from walk.now to }
-{
-    let edges = graph.edges.as_slice();
-    let mut at = from;
-    let mut rest = walk;
-    while let [number, after @ ..] = rest {
-        let number = *number as usize;
-        if number >= edges.len() || edges[number].from != at {
-            return false;
-        }
-        at = edges[number].to;
-        rest = after;
-    }
-    at == to
 }
 
 /// Whether edges lead from where a station is drained to where it is filled, and are none of its own.

@@ -2,4 +2,5 @@ pub mod Running
 pub mod Tables
 pub mod Outputs
 pub mod Accepted
+pub mod Stemming
 pub mod Layouts

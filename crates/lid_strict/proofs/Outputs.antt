@@ -15,7 +15,7 @@ use Rattle.lid_check_elab.specs.declared.driver.ColumnDriver.{ColumnDriver}
 use Rattle.lid_check_elab.specs.Elaborations.{shown_driver, column_at, IsElaborated}
 use Rattle.lid_check_loops.proofs.Numbered.{column_here}
 use Rattle.lid_check.specs.Networks.{AreNumbersOf}
-use Rattle.lid_strict.specs.Networks.{driver_list, reads_of, AreHeldBelow, rows_at}
+use Rattle.lid_strict.specs.Networks.{driver_list, reads_of, AreTakenBelow, rows_at}
 use Rattle.lid_strict.proofs.Tables.{map_map, numbered, table}
 use Rattle.lid_base.proofs.Alls.{all_from_among, all_parts}
 use Rattle.lid_base.proofs.Each.{each_length, all_each, each_same}
@@ -25,8 +25,8 @@ map_names f [] = refl
 map_names f (n ∷ names) = ap (λ (bs : List Bool). f (column [] n) ∷ bs) (map_names f names)
 
 module _ (d : Design) (list : List ColumnDriver) (starts : List ℕ) (is : IsElaborated d (map (shown_driver d) list) starts) where
-  pub held_below : AreHeldBelow (map (shown_driver d) list)
-  held_below = all_from_among (λ (s : Driver ℕ). AllByRecursion (λ a. a < length (map (shown_driver d) list)) (read_before s)) (map (shown_driver d) list) (λ s among. let at = among_get (map (shown_driver d) list) s among in each at.0 s at.1)
+  pub taken_below : AreTakenBelow (map (shown_driver d) list)
+  taken_below = all_from_among (λ (s : Driver ℕ). AllByRecursion (λ a. a < length (map (shown_driver d) list)) (read_before s)) (map (shown_driver d) list) (λ s among. let at = among_get (map (shown_driver d) list) s among in each at.0 s at.1)
     where
       each : (k : ℕ) (s : Driver ℕ) → slice_get (map (shown_driver d) list) k ≡ Some s → AllByRecursion (λ a. a < length (map (shown_driver d) list)) (read_before s)
       each k s here =

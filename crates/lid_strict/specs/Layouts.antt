@@ -5,18 +5,15 @@ use Rattle.lid_base.specs.Lists.{Among}
 use Rattle.lid_design.specs.declared.FlatLatch.{FlatLatch}
 use Rattle.lid_design.specs.declared.FlatCover.{FlatCover}
 use Rattle.lid_design.specs.Network.{Driver, from_input, from_latch, from_cover, from_connection, Table}
-use Rattle.lid_design.specs.Flat.{latch_out, latch_input, latch_init, ReadEarlier, IsRow}
-use Rattle.lid_check_parts.specs.Inner.{latches_of, driver_covers}
+use Rattle.lid_design.specs.Flat.{latch_out, latch_init, ReadEarlier, IsRow}
+use Rattle.lid_check_parts.specs.Inner.{latches_of}
 use Rattle.lid_strict_engine.specs.Programs.{program_covers, IsProgram}
 use Rattle.lid_strict_engine.specs.Rows.{bit_at, known_after}
 use Rattle.lid_strict_widths.specs.declared.group.ByWidth.{ByWidth}
 use Rattle.lid_strict_widths.specs.Groups.{IsByWidth}
-use Rattle.lid_strict.specs.Networks.{rows_at}
+use Rattle.lid_strict.specs.Networks.{driver_at, rows_at}
+use Rattle.lid_strict.specs.Stems.{stem_covers, latch_stem}
 use Rattle.lid_strict.specs.declared.layout.Layout.{Layout}
-
--- the driver of a number
-abbrev pub driver_at : List (Driver ℕ) → ℕ → Driver ℕ
-driver_at network k = slice_index_or network k (from_input 0)
 
 -- number k where it is an input, and the place of the input
 abbrev pub input_nets : ℕ → Driver ℕ → List ℕ
@@ -41,25 +38,29 @@ places_in network order = flat_map (λ k. input_places (driver_at network k)) or
 abbrev pub latches_in : List (Driver ℕ) → List ℕ → List FlatLatch
 latches_in network order = flat_map (λ k. latches_of k (driver_at network k)) order
 
-abbrev pub network_covers : List (Driver ℕ) → List ℕ → List FlatCover
-network_covers network order = flat_map (λ k. driver_covers k (driver_at network k)) order
+abbrev pub covers_in : List (Driver ℕ) → List ℕ → List ℕ → List FlatCover
+covers_in network stems order = flat_map (λ k. stem_covers stems k (driver_at network k)) order
 
--- the layout of a network in an order
-pub record IsLaidOut (network : List (Driver ℕ)) (order : List ℕ) (p : Layout) : Type 0 where
+-- the layout of a network in an order, in which stems are read in place of all numbers
+pub record IsLaidOut (network : List (Driver ℕ)) (stems order : List ℕ) (p : Layout) : Type 0 where
   pub ready : IsProgram p.program
   pub nets : p.program.nets ≡ length network
-  pub covers : program_covers p.program ≡ network_covers network order
+  pub covers : program_covers p.program ≡ covers_in network stems order
   pub ins : p.ins.items ≡ nets_in network order
   pub places : p.places.items ≡ places_in network order
   pub held : p.held.items ≡ map latch_out (latches_in network order)
-  pub taken : p.taken.items ≡ map latch_input (latches_in network order)
+  pub taken : p.taken.items ≡ map (latch_stem stems) (latches_in network order)
   pub first : p.first.items ≡ map latch_init (latches_in network order)
 
 -- what is known in a row before covers are run
 abbrev pub known_first : Layout → List ℕ
 known_first p = p.ins.items ++ (p.held.items ++ [])
 
--- each cover reads what is known when it is run, and all numbers are known in the end
+-- a number has its bit once the covers are run
+abbrev pub IsSettled : Layout → ℕ → Type 0
+IsSettled p k = Among k (known_after (known_first p) (program_covers p.program))
+
+-- each cover reads what is known when it is run, and what latches read is known in the end
 pub record IsRunnable (p : Layout) : Type 0 where
   pub ready : IsProgram p.program
   pub ins : AllByRecursion (λ k. k < p.program.nets) p.ins.items
@@ -69,7 +70,7 @@ pub record IsRunnable (p : Layout) : Type 0 where
   pub latches : length p.taken.items ≡ length p.held.items
   pub begun : length p.first.items ≡ length p.held.items
   pub earlier : ReadEarlier (known_first p) (program_covers p.program)
-  pub all : (k : ℕ) → k < p.program.nets → Among k (known_after (known_first p) (program_covers p.program))
+  pub settled : AllByRecursion (IsSettled p) p.taken.items
 
 -- what runs the program of a layout
 pub record IsEngineOf (p : Layout) (x : ByWidth) : Type 0 where

@@ -4,19 +4,20 @@
 ghost use Rattle.std.specs.Prelude.{◌≡◌, ◌<◌, ◌++◌, [], length, map, IfOk, OnOk};
 ghost use Rattle.std.specs.List.{AllByRecursion};
 ghost use Rattle.lid_design.specs.Feeds.{read_now};
-ghost use Rattle.lid_design.specs.Flat.{latch_out, latch_input, latch_init};
+ghost use Rattle.lid_design.specs.Flat.{latch_out, latch_init};
 ghost use Rattle.lid_check_digraph.specs.Graphs.{IsOrder};
 ghost use Rattle.lid_check_elab.specs.Covers.{no_cover};
 ghost use Rattle.lid_check_elab.specs.Elaborations.{shown_driver};
 ghost use Rattle.lid_strict_engine.specs.Programs.{program_covers, IsProgram};
 ghost use Rattle.lid_strict.specs.Networks.{reads_of};
+ghost use Rattle.lid_strict.specs.Stems.{stem_at, stem_covers, latch_stem, AreStems};
 ghost use Rattle.lid_check_parts.specs.Parts.{HasCover};
-ghost use Rattle.lid_check_parts.specs.Inner.{buffer, latches_of, driver_covers};
+ghost use Rattle.lid_check_parts.specs.Inner.{latches_of};
 ghost use Rattle.lid_strict.specs.Layouts.{input_nets, input_places, IsLaidOut};
 
+use crate::stems::{stem_of, write_stems};
 use lid_base::Items;
 use lid_check_elab::{ColumnDriver, cover_at};
-use lid_check_parts::buffer;
 use lid_cover::Cover;
 use lid_design::Design;
 use lid_strict_engine::Program;
@@ -25,43 +26,45 @@ use std::alloc::{AllocError, Global};
 /// What gives each number of a network its bit.
 #[derive(Drop)]
 pub struct Layout {
-    /// The covers, and each connection as a cover of one input.
+    /// The covers, which read stems. A connection has no step.
     pub program: Program,
     /// The numbers of data inputs of the root.
     pub ins: Vec<u32>,
     /// The place of each of them among the inputs of the root.
     pub places: Vec<u32>,
-    /// The number of each latch, and beside it the number that it reads and the bit that it begins with.
+    /// The number of each latch, and beside it the stem of what it reads and the bit that it begins with.
     pub held: Vec<u32>,
     pub taken: Vec<u32>,
     pub first: Vec<bool>,
 }
 
-/// Covers that no model has.
+/// What covers are pushed with.
 #[derive(Drop)]
-struct PlainCovers {
-    /// The value of its one input.
-    buffer: Cover,
+struct Scratch {
     /// The constant 0, where there is no cover.
     none: Cover,
+    /// The stems that a cover reads.
+    reads: Vec<u32>,
 }
 
-/// Lays out the drivers of some numbers, in their order.
+/// Lays out the drivers of some numbers, in their order, by their stems.
 pub fn lay_out(
     alloc: Global,
     design: &Design,
     drivers: &[ColumnDriver],
     order: &[u32],
+    stems: &[u32],
 ) -> Result<Layout, AllocError>
     requires ordered { IsOrder (reads_of (map (shown_driver design.now) drivers.now)) order.now }
     requires covers { AllByRecursion (HasCover design.now) drivers.now }
-    ensures { IfOk result (IsLaidOut (map (shown_driver design.now) drivers.now) order.now) }
+    requires stems { AreStems (map (shown_driver design.now) drivers.now) order.now stems.now }
+    ensures { IfOk result (IsLaidOut (map (shown_driver design.now) drivers.now) stems.now order.now) }
 {
-    let plain = plain_covers(alloc)?;
+    let mut scratch = no_scratch(alloc);
     let mut layout = no_layout(alloc, drivers.len());
     for number in order {
         let driver = &drivers[*number as usize];
-        push_driver(&mut layout, &plain, design, *number, driver)?;
+        push_driver(&mut layout, &mut scratch, stems, design, *number, driver)?;
     }
     Ok(layout)
 }
@@ -87,44 +90,44 @@ fn no_layout(alloc: Global, size: usize) -> Layout
     }
 }
 
-/// The covers that no model has.
-fn plain_covers(alloc: Global) -> Result<PlainCovers, AllocError>
-    ensures buffer { IfOk result (λ plain. plain.buffer ≡ buffer) }
-    ensures none { IfOk result (λ plain. plain.none ≡ no_cover) }
+/// No reads, and the cover that no model has.
+fn no_scratch(alloc: Global) -> Scratch
+    ensures { result.none ≡ no_cover }
 {
-    let buffer = buffer(alloc)?;
-    Ok(PlainCovers {
-        buffer,
+    Scratch {
         none: Cover {
             inputs: 0,
             on: false,
             cubes: Items::from_vec(Vec::new(alloc)),
         },
-    })
+        reads: Vec::new(alloc),
+    }
 }
 
 /// Adds what gives a number its bit.
 fn push_driver(
     layout: &mut Layout,
-    plain: &PlainCovers,
+    scratch: &mut Scratch,
+    stems: &[u32],
     design: &Design,
     number: u32,
     driver: &ColumnDriver,
 ) -> Result<(), AllocError>
-    requires buffer { plain.now.buffer ≡ buffer }
-    requires none { plain.now.none ≡ no_cover }
+    requires none { scratch.old.none ≡ no_cover }
     requires program { IsProgram layout.old.program }
     requires number { number < layout.old.program.nets }
-    requires reads { AllByRecursion (λ k. k < layout.old.program.nets) (read_now (shown_driver design.now driver.now)) }
+    requires reads { AllByRecursion (λ k. k < layout.old.program.nets) (map (stem_at stems.now) (read_now (shown_driver design.now driver.now))) }
     requires cover { HasCover design.now driver.now }
+    ensures none { OnOk result (scratch.new.none ≡ no_cover) }
     ensures program { OnOk result (IsProgram layout.new.program) }
     ensures nets { OnOk result (layout.new.program.nets ≡ layout.old.program.nets) }
     ensures covers { OnOk result (program_covers layout.new.program ≡ program_covers layout.old.program
-        ++ driver_covers number (shown_driver design.now driver.now)) }
+        ++ stem_covers stems.now number (shown_driver design.now driver.now)) }
     ensures ins { OnOk result (layout.new.ins.items ≡ layout.old.ins.items ++ input_nets number (shown_driver design.now driver.now)) }
     ensures places { OnOk result (layout.new.places.items ≡ layout.old.places.items ++ input_places (shown_driver design.now driver.now)) }
     ensures held { OnOk result (layout.new.held.items ≡ layout.old.held.items ++ map latch_out (latches_of number (shown_driver design.now driver.now))) }
-    ensures taken { OnOk result (layout.new.taken.items ≡ layout.old.taken.items ++ map latch_input (latches_of number (shown_driver design.now driver.now))) }
+    ensures taken { OnOk result (layout.new.taken.items ≡ layout.old.taken.items
+        ++ map (latch_stem stems.now) (latches_of number (shown_driver design.now driver.now))) }
     ensures first { OnOk result (layout.new.first.items ≡ layout.old.first.items ++ map latch_init (latches_of number (shown_driver design.now driver.now))) }
 {
     match driver {
@@ -134,7 +137,7 @@ fn push_driver(
         }
         ColumnDriver::Latch { first, input } => {
             layout.held.push(number)?;
-            layout.taken.push(*input)?;
+            layout.taken.push(stem_of(stems, *input))?;
             layout.first.push(*first)?;
         }
         ColumnDriver::Cover {
@@ -142,10 +145,13 @@ fn push_driver(
             cell,
             inputs,
         } => {
-            let cover = cover_at(design, *model, *cell).unwrap_or(&plain.none);
-            layout.program.push(inputs.as_slice(), number, cover)?;
+            write_stems(stems, inputs.as_slice(), &mut scratch.reads)?;
+            let cover = cover_at(design, *model, *cell).unwrap_or(&scratch.none);
+            layout
+                .program
+                .push(scratch.reads.as_slice(), number, cover)?;
         }
-        ColumnDriver::Connection(other) => layout.program.push(&[*other], number, &plain.buffer)?,
+        ColumnDriver::Connection(_) => {}
     }
     Ok(())
 }

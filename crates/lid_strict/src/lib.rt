@@ -5,6 +5,7 @@ mod laws;
 mod layout;
 mod simulation;
 mod source;
+mod stems;
 mod whole;
 
 pub use laws::accepted_have_one_table;

@@ -8,11 +8,13 @@ ghost use Rattle.lid_check_elab.specs.Elaborations.{shown_driver};
 ghost use Rattle.lid_strict_engine.specs.Programs.{IsProgram};
 ghost use Rattle.lid_strict_engine.specs.Rows.{bit_at};
 ghost use Rattle.lid_check_parts.specs.Parts.{HasCover};
-ghost use Rattle.lid_strict.specs.Networks.{driver_list, reads_of, AreHeldBelow, rows_at};
-ghost use Rattle.lid_strict.specs.Layouts.{IsRunnable, IsEngineOf, FitsRow, FitsTable};
+ghost use Rattle.lid_strict.specs.Networks.{driver_list, reads_of, AreTakenBelow, rows_at};
+ghost use Rattle.lid_strict.specs.Stems.{stem_at};
+ghost use Rattle.lid_strict.specs.Layouts.{IsRunnable, IsSettled, IsEngineOf, FitsRow, FitsTable};
 
 use crate::layout::{Layout, lay_out};
 use crate::source::RowSource;
+use crate::stems::{stems_of, write_stems};
 use lid_check_elab::ColumnDriver;
 use lid_design::Design;
 use lid_strict_engine::{copy_of, put_bits, take_bits};
@@ -77,7 +79,7 @@ fn run_row(
     ensures bits_size { length bits.new ≡ layout.now.program.nets }
     ensures state { state.new ≡ map (bit_at bits.new) layout.now.taken.items }
     ensures bits { (row : List Bool) (f : ℕ → Bool) → inputs.now ≡ map (bit_at row) layout.now.places.items → FitsRow layout.now row state.old f
-        → (k : ℕ) → k < layout.now.program.nets → bit_at bits.new k ≡ f k }
+        → (k : ℕ) → IsSettled layout.now k → bit_at bits.new k ≡ f k }
 {
     put_bits(bits, layout.held.as_slice(), state);
     put_bits(bits, layout.ins.as_slice(), inputs);
@@ -106,13 +108,33 @@ pub fn simulate<R: RowSource>(
 ) -> Result<PackedRows, AllocError>
     requires ordered { IsOrder (reads_of (map (shown_driver design.now) drivers.now)) order.now }
     requires covers { AllByRecursion (HasCover design.now) drivers.now }
-    requires held { AreHeldBelow (map (shown_driver design.now) drivers.now) }
+    requires taken { AreTakenBelow (map (shown_driver design.now) drivers.now) }
     requires outs { AllByRecursion (λ k. k < length drivers.now) outs.now }
     ensures { IfOk result (λ out. (b : Table ℕ) → IsStrict (driver_list (map (shown_driver design.now) drivers.now)) (R.rows rows.now) b
         → out.rows ≡ rows_at outs.now b (length (R.rows rows.now))) }
 {
-    let layout = lay_out(alloc, design, drivers, order)?;
-    run_laid_out(alloc, &layout, outs, rows)
+    let found = stems_of(alloc, drivers, order)?;
+    let stems = found.as_slice();
+    let layout = lay_out(alloc, design, drivers, order, stems)?;
+    run_stems(alloc, &layout, stems, outs, rows)
+}
+
+/// Runs what is laid out row by row, and answers the bits of the stems of some numbers in each row.
+fn run_stems<R: RowSource>(
+    alloc: Global,
+    layout: &Layout,
+    stems: &[u32],
+    outs: &[u32],
+    rows: &R,
+) -> Result<PackedRows, AllocError>
+    requires runnable { IsRunnable layout.now }
+    requires outs { AllByRecursion (IsSettled layout.now) (map (stem_at stems.now) outs.now) }
+    ensures { IfOk result (λ out. (b : Table ℕ) → FitsTable layout.now (R.rows rows.now) b
+        → out.rows ≡ rows_at (map (stem_at stems.now) outs.now) b (length (R.rows rows.now))) }
+{
+    let mut asked = Vec::new(alloc);
+    write_stems(stems, outs, &mut asked)?;
+    run_laid_out(alloc, layout, asked.as_slice(), rows)
 }
 
 /// Runs what is laid out row by row, and answers the bits of some numbers in each row.
@@ -123,7 +145,7 @@ fn run_laid_out<R: RowSource>(
     rows: &R,
 ) -> Result<PackedRows, AllocError>
     requires runnable { IsRunnable layout.now }
-    requires outs { AllByRecursion (λ k. k < layout.now.program.nets) outs.now }
+    requires outs { AllByRecursion (IsSettled layout.now) outs.now }
     ensures { IfOk result (λ out. (b : Table ℕ) → FitsTable layout.now (R.rows rows.now) b → out.rows ≡ rows_at outs.now b (length (R.rows rows.now))) }
 {
     let engine = engine_of(layout)?;
@@ -147,7 +169,7 @@ fn run_layout<R: RowSource>(
 ) -> Result<(), AllocError>
     requires runnable { IsRunnable run.now.layout.now }
     requires engine { IsEngineOf run.now.layout.now run.now.engine.now }
-    requires outs { AllByRecursion (λ k. k < run.now.layout.now.program.nets) run.now.outs.now }
+    requires outs { AllByRecursion (IsSettled run.now.layout.now) run.now.outs.now }
     requires none { results.old ≡ record { width = length run.now.outs.now; rows = [] } }
     ensures { OnOk result ((b : Table ℕ) → FitsTable run.now.layout.now (R.rows run.now.rows.now) b
         → results.new.rows ≡ rows_at run.now.outs.now b (length (R.rows run.now.rows.now))) }
@@ -178,7 +200,7 @@ fn run_rows<R: RowSource>(
 ) -> Result<(), AllocError>
     requires runnable { IsRunnable run.now.layout.now }
     requires engine { IsEngineOf run.now.layout.now run.now.engine.now }
-    requires outs { AllByRecursion (λ k. k < run.now.layout.now.program.nets) run.now.outs.now }
+    requires outs { AllByRecursion (IsSettled run.now.layout.now) run.now.outs.now }
     requires state { state.old ≡ run.now.layout.now.first.items }
     requires inputs { length inputs.old ≡ length run.now.layout.now.places.items }
     requires bits { length bits.old ≡ run.now.layout.now.program.nets }

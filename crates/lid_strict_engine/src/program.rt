@@ -24,13 +24,13 @@ pub struct Span {
 pub struct ProgramStep {
     /// The truth table, where the cover has at most six inputs.
     pub table: u64,
-    /// The net that it writes.
-    pub out: u32,
     /// The place of its first read.
     pub first: usize,
+    pub cubes: Span,
+    /// The net that it writes.
+    pub out: u32,
     /// How many nets it reads.
     pub width: u32,
-    pub cubes: Span,
     /// The value of the cover where some row agrees.
     pub on: bool,
 }

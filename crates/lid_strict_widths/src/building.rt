@@ -47,7 +47,7 @@ fn reads_of(alloc: Global, reads: &[u32], steps: &[ProgramStep]) -> Result<Vec<u
     Ok(own)
 }
 
-/// The longest group from a step on.
+/// A group from a step on (the longest, which no clause says).
 fn group_from(steps: &[ProgramStep], start: usize) -> Group
     requires there { start < length steps.now }
     ensures start { result.start ≡ start }
@@ -76,7 +76,7 @@ fn groups_of(alloc: Global, steps: &[ProgramStep]) -> Result<Vec<Group>, AllocEr
     Ok(groups)
 }
 
-/// A program that is run in an order, with its steps in the longest groups.
+/// A program that is run in an order, with its steps in groups (the longest, which no clause says).
 ///
 /// # Errors
 /// Where there is no memory.
@@ -85,6 +85,7 @@ pub fn by_width(program: Program, order: Vec<usize>) -> Result<ByWidth, AllocErr
     requires order { IsRunOrder (program_covers program) order.items }
     ensures is { IfOk result IsByWidth }
     ensures program { IfOk result (λ x. x.program ≡ program) }
+    ensures order { IfOk result (λ x. x.order.items ≡ order.items) }
 {
     let alloc = *program.steps.allocator();
     let steps = collect_steps(alloc, program.steps.as_slice(), order.as_slice())?;
@@ -109,6 +110,7 @@ impl ByWidth {
         ensures is { IfOk result IsByWidth }
         ensures nets { IfOk result (λ copy. copy.program.nets ≡ self.now.program.nets) }
         ensures shown { IfOk result (λ copy. program_covers copy.program ≡ program_covers self.now.program) }
+        ensures order { IfOk result (λ copy. copy.order.items ≡ self.now.order.items) }
     {
         let program = self.program.copy()?;
         let order = copy_of(*self.order.allocator(), self.order.as_slice())?;

@@ -100,7 +100,7 @@ impl Packing {
     }
 }
 
-/// Reads the rows of a text as `lid_texts::read_rows` does, and holds them packed: a bit for each bit.
+/// Reads the rows of a text as `lid_texts::read_rows` does, and holds them packed, 64 bits in a word.
 ///
 /// # Errors
 /// Those of `read_rows`.

@@ -4,4 +4,3 @@ pub mod Runs
 pub mod Clocked
 pub mod Verified
 pub mod Fetched
-pub mod Counts

@@ -1,5 +1,6 @@
 -- What a run shows, by how it ended.
 use Rattle.std.proofs.Common.{◌≡◌, ℕ, ◌≤◌, Bool, true, false, List, [], Option, Some, None, Result, Ok, Err, OnOk, IfErr, IfSome, is_some, true≢false, inl, inr, refl, sym, ap, subst, arith}
+use Rattle.std.specs.Prelude.{◌≢◌}
 use Rattle.lid_base.specs.Outside.{Rose}
 use Rattle.lid_top_words.specs.declared.job.Job.{Job}
 use Rattle.lid_top_script.specs.declared.fault.Stop.TheVariants.{Refused, Read, Memory, Denied}
@@ -53,6 +54,11 @@ denied_told (Stopped Memory) e = absurd (omega (arith, e))
 denied_told (Stopped Denied) e = refl
 denied_told Unwritten e = absurd (omega (arith, e))
 
+-- what holds of a job that stopped holds but where the status says that a write failed
+counted_end : {A : Type 0} (end : JobEnd) → (IsStoppedJob end → A) → end_status end ≢ 4 → A
+counted_end (Stopped stop) holds other = holds tt
+counted_end Unwritten holds other = absurd (other refl)
+
 module _ {S O E : Type 0} (files : ShelfView S) (sink : SinkView O) (errs : SinkView E) where
   -- the fetches of a job
   abbrev Fetched : Job → S → S → ℕ → Type 0
@@ -65,6 +71,7 @@ module _ {S O E : Type 0} (files : ShelfView S) (sink : SinkView O) (errs : Sink
     usage = λ two. absurd (omega (arith, two));
     no_job = λ none. (inr refl, refl, refl);
     ran = by asked;
+    counted = λ _. refl;
     kept = refl;
     quiet = λ zero. absurd (omega (arith, zero));
     says_usage = λ two. absurd (omega (arith, two));
@@ -95,8 +102,8 @@ module _ {S O E : Type 0} (files : ShelfView S) (sink : SinkView O) (errs : Sink
       }
 
   -- the output of the job is whole
-  pub run_of_whole : (job : Job) (s t : S) (o p : O) (e : E) → Writes (files.held s) (script_of job) sink.written sink.pieces o p → Fetched job s t 0 → files.held t ≡ files.held s → Run (Some job) files s t sink o p errs e e 0
-  run_of_whole job s t o p e w went kept = record {
+  pub run_of_whole : (job : Job) (s t : S) (o p : O) (e : E) → Writes (files.held s) (script_of job) sink.written sink.pieces o p → Fetched job s t 0 → files.held t ≡ files.held s → sink.faults p ≡ sink.faults o → Run (Some job) files s t sink o p errs e e 0
+  run_of_whole job s t o p e w went kept still = record {
     most = omega arith;
     usage = λ two. absurd (omega (arith, two));
     no_job = λ none. absurd (is_some_job none);
@@ -111,6 +118,7 @@ module _ {S O E : Type 0} (files : ShelfView S) (sink : SinkView O) (errs : Sink
       complete = λ _ _. inr (record { ending = gives w.has.output; ends = w.has.ends; same = refl });
       fetched = went;
     };
+    counted = λ _. still;
     kept = kept;
     quiet = λ zero. refl;
     says_usage = λ two. absurd (omega (arith, two));
@@ -182,12 +190,13 @@ module _ {S O E : Type 0} (files : ShelfView S) (sink : SinkView O) (errs : Sink
 
     pub run_of_end : (end : JobEnd) → IsJobEnd (files.held s) (script_of job) (files.faults s) (files.faults t) (Rose (sink.faults o) (sink.faults p) × WritesPrefix (files.held s) (script_of job) sink.written sink.pieces o p) end
         → (IsStoppedJob end → Leaves (writes_early job) (files.held s) (script_of job) sink.written sink.pieces o p) → (IsRefusedJob end → TellsAll (files.held s) (script_of job) → p ≡ o)
-        → Fetched job s t (end_status end) → files.held t ≡ files.held s → Says errs.written errs.pieces errs.faults e f (end_line end) → Run (Some job) files s t sink o p errs e f (end_status end)
-    run_of_end end cause left unwritten went kept says = record {
+        → Fetched job s t (end_status end) → files.held t ≡ files.held s → (IsStoppedJob end → sink.faults p ≡ sink.faults o) → Says errs.written errs.pieces errs.faults e f (end_line end) → Run (Some job) files s t sink o p errs e f (end_status end)
+    run_of_end end cause left unwritten went kept wanting says = record {
       most = (end_statuses end).most;
       usage = λ two. absurd ((end_statuses end).job two);
       no_job = λ none. absurd (is_some_job none);
       ran = job_stopped end cause left unwritten went says;
+      counted = counted_end end wanting;
       kept = kept;
       quiet = λ zero. absurd (let some = (end_statuses end).some in omega (arith, some, zero));
       says_usage = λ two. absurd ((end_statuses end).job two);
@@ -201,9 +210,10 @@ module _ {S O E : Type 0} (files : ShelfView S) (sink : SinkView O) (errs : Sink
         → IfErr result (IsJobEnd (files.held s) (script_of job) (files.faults s) (files.faults t) (Rose (sink.faults o) (sink.faults p) × WritesPrefix (files.held s) (script_of job) sink.written sink.pieces o p))
         → IfErr result (λ end. IsStoppedJob end → Leaves (writes_early job) (files.held s) (script_of job) sink.written sink.pieces o p)
         → IfErr result (λ end. IsRefusedJob end → TellsAll (files.held s) (script_of job) → p ≡ o) → Fetched job s t (job_status result) → files.held t ≡ files.held s
+        → OnOk result (sink.faults p ≡ sink.faults o) → IfErr result (λ end. IsStoppedJob end → sink.faults p ≡ sink.faults o)
         → OnOk result ((status ≡ 0) × (f ≡ e)) → IfErr result (λ end. (status ≡ end_status end) × Says errs.written errs.pieces errs.faults e f (end_line end)) → Run (Some job) files s t sink o p errs e f status
-    run_of_result (Ok done) status whole_text cause left unwritten went kept whole stopped =
+    run_of_result (Ok done) status whole_text cause left unwritten went kept still wanting whole stopped =
         let of_err : E → Type 0 = λ x. Run (Some job) files s t sink o p errs e x status in
-        subst of_err (sym whole.1) (subst (λ n. Run (Some job) files s t sink o p errs e e n) (sym whole.0) (run_of_whole job s t o p e whole_text went kept))
-    run_of_result (Err end) status whole_text cause left unwritten went kept whole stopped =
-        subst (λ n. Run (Some job) files s t sink o p errs e f n) (sym stopped.0) (run_of_end end cause left unwritten went kept stopped.1)
+        subst of_err (sym whole.1) (subst (λ n. Run (Some job) files s t sink o p errs e e n) (sym whole.0) (run_of_whole job s t o p e whole_text went kept still))
+    run_of_result (Err end) status whole_text cause left unwritten went kept still wanting whole stopped =
+        subst (λ n. Run (Some job) files s t sink o p errs e f n) (sym stopped.0) (run_of_end end cause left unwritten went kept wanting stopped.1)

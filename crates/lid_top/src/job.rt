@@ -2,7 +2,6 @@
 
 ghost use Rattle.std.specs.Prelude.{◌≡◌, true, false, OnOk, IfErr};
 ghost use Rattle.lid_base.specs.Outside.{Rose};
-ghost use Rattle.lid_top_clock.specs.Stops.{UnlessUnwritten};
 ghost use Rattle.lid_top_words.specs.Jobs.{IsJobInRange};
 ghost use Rattle.lid_top_script.specs.Scripts.{script_of};
 ghost use Rattle.lid_top_script.specs.Early.{RunsEarly};
@@ -47,7 +46,7 @@ where
     ensures fetched { FetchesJob S.whole (S.held shelf.old) (script_of job.now)
         (S.fetches shelf.old) (S.fetches shelf.new) (S.faults shelf.old) (S.faults shelf.new) (job_status result) }
     ensures still { OnOk result (O.faults out.new ≡ O.faults out.old) }
-    ensures wanting { IfErr result (UnlessUnwritten (O.faults out.new ≡ O.faults out.old)) }
+    ensures wanting { IfErr result (λ end. IsStoppedJob end → O.faults out.new ≡ O.faults out.old) }
     ensures kept { S.held shelf.new ≡ S.held shelf.old }
 {
     match job {
@@ -71,7 +70,7 @@ fn run_early<'a, R: Threads + AllocGlobal + Sync, S: Shelf, O: Sink, G: Gate>(
     ensures fetched { FetchesJob S.whole (S.held shelf.old) (script_of job.now)
         (S.fetches shelf.old) (S.fetches shelf.new) (S.faults shelf.old) (S.faults shelf.new) (job_status result) }
     ensures still { OnOk result (O.faults out.new ≡ O.faults out.old) }
-    ensures wanting { IfErr result (UnlessUnwritten (O.faults out.new ≡ O.faults out.old)) }
+    ensures wanting { IfErr result (λ end. IsStoppedJob end → O.faults out.new ≡ O.faults out.old) }
     ensures kept { S.held shelf.new ≡ S.held shelf.old }
 {
     match job {
@@ -114,7 +113,7 @@ fn run_whole<'a, R: Threads + AllocGlobal + Sync, S: Shelf, O: Sink, G: Gate>(
     ensures fetched { FetchesJob S.whole (S.held shelf.old) (script_of job.now)
         (S.fetches shelf.old) (S.fetches shelf.new) (S.faults shelf.old) (S.faults shelf.new) (job_status result) }
     ensures still { OnOk result (O.faults out.new ≡ O.faults out.old) }
-    ensures wanting { IfErr result (UnlessUnwritten (O.faults out.new ≡ O.faults out.old)) }
+    ensures wanting { IfErr result (λ end. IsStoppedJob end → O.faults out.new ≡ O.faults out.old) }
     ensures kept { S.held shelf.new ≡ S.held shelf.old }
 {
     match text_of(rt, gate, shelf, job) {

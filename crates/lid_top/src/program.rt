@@ -1,6 +1,6 @@
 //! The program round the top call: from what the system gives it to the status of the process.
 
-ghost use Rattle.std.specs.Prelude.{◌≡◌, ◌≢◌, ◌⊎◌, None, IfOk, IfErr};
+ghost use Rattle.std.specs.Prelude.{◌≡◌, ◌⊎◌, None, IfOk, IfErr};
 ghost use Rattle.std.specs.Process.{exit_status};
 ghost use Rattle.lid_top_words.specs.Jobs.{job_of};
 ghost use Rattle.lid_top_refusals.specs.Faults.{usage_line, memory_line};
@@ -49,7 +49,6 @@ where
         (sink_view O.written O.pieces O.faults) out.old out.new (sink_view E.written E.pieces E.faults) err.old err.new (exit_status result)) }
     ensures wordless { IfErr words (λ cause. Run None (shelf_view S.whole S.held S.fetches S.faults) shelf.old shelf.new
         (sink_view O.written O.pieces O.faults) out.old out.new (sink_view E.written E.pieces E.faults) err.old err.new (exit_status result)) }
-    ensures counted { exit_status result ≢ 4 → O.faults out.new ≡ O.faults out.old }
     ensures told_apart { IfErr words (λ cause. IsStatusWithout cause (exit_status result)) }
 {
     let status = match words {

@@ -1,6 +1,6 @@
 //! The top call: from words, files and sinks to a status.
 
-ghost use Rattle.std.specs.Prelude.{◌≡◌, ◌≢◌, OnOk, IfErr};
+ghost use Rattle.std.specs.Prelude.{◌≡◌, OnOk, IfErr};
 ghost use Rattle.lid_top_words.specs.Jobs.{job_of};
 ghost use Rattle.lid_top_script.specs.Causes.{end_status, end_line};
 ghost use Rattle.lid_top_refusals.specs.Saying.{Says};
@@ -42,9 +42,8 @@ where
     O: Sink,
     E: Sink,
     G: Gate,
-    ensures ran { Run (job_of words.now) (shelf_view S.whole S.held S.fetches S.faults) shelf.old shelf.new
+    ensures { Run (job_of words.now) (shelf_view S.whole S.held S.fetches S.faults) shelf.old shelf.new
         (sink_view O.written O.pieces O.faults) out.old out.new (sink_view E.written E.pieces E.faults) err.old err.new result }
-    ensures counted { result ≢ 4 → O.faults out.new ≡ O.faults out.old }
 {
     match read_words(rt.alloc(), words) {
         Ok(Some(job)) => status_of(err, run_job(rt, &job, shelf, out, gate)),

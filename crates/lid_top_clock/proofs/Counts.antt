@@ -4,7 +4,8 @@ use Rattle.std.specs.Borrow.{Bor}
 use Rattle.lid_top_clock.specs.declared.fault.RunFault.{RunFault}
 use Rattle.lid_top_clock.specs.declared.fault.RunFault.TheVariants.{Feed, Few, Memory, Write}
 use Rattle.lid_top_clock.specs.Pushing.{UnlessWrite}
-use Rattle.lid_top_clock.specs.Stops.{UnlessUnwritten, end_of_run}
+use Rattle.lid_top_clock.specs.Stops.{end_of_run}
+use Rattle.lid_top_script.specs.Causes.{IsStoppedJob}
 
 -- what holds whatever the fault is
 pub unless_any : {A : Type 0} (fault : RunFault) → A → UnlessWrite A fault
@@ -21,8 +22,8 @@ unless_later Memory f a = f a
 unless_later Write f a = tt
 
 -- it holds of the end of a run too
-pub end_unless : (A : Type 0) (vec : Bor (List ℕ)) (count : ℕ) (fault : RunFault) → UnlessWrite A fault → UnlessUnwritten A (end_of_run vec count fault)
-end_unless A vec count (Feed fault) a = a
-end_unless A vec count (Few found) a = a
-end_unless A vec count Memory a = a
-end_unless A vec count Write a = tt
+pub end_stopped : (A : Type 0) (vec : Bor (List ℕ)) (count : ℕ) (fault : RunFault) → UnlessWrite A fault → IsStoppedJob (end_of_run vec count fault) → A
+end_stopped A vec count (Feed fault) a stopped = a
+end_stopped A vec count (Few found) a stopped = a
+end_stopped A vec count Memory a stopped = a
+end_stopped A vec count Write a stopped = absurd stopped

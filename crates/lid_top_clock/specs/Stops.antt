@@ -1,5 +1,5 @@
 -- How a run ends that stopped.
-use Rattle.std.specs.Prelude.{ℕ, List, ⊤}
+use Rattle.std.specs.Prelude.{ℕ, List}
 use Rattle.std.specs.Borrow.{Bor}
 use Rattle.lid_texts_feed.specs.declared.fault.FeedFault.{FeedFault}
 use Rattle.lid_texts_feed.specs.declared.fault.FeedFault.TheVariants as feed
@@ -18,11 +18,6 @@ abbrev pub stop_of_feed : Bor (List ℕ) → FeedFault → Stop
 stop_of_feed vec feed.Read = Read vec
 stop_of_feed vec feed.Memory = Memory
 stop_of_feed vec (feed.Refused fault) = stop_of_rows fault
-
--- but where a write failed, this holds
-abbrev pub UnlessUnwritten : Type 0 → JobEnd → Type 0
-UnlessUnwritten IsStill (Stopped stop) = IsStill
-UnlessUnwritten IsStill Unwritten = ⊤
 
 -- how a run ends that was to have so many rows
 abbrev pub end_of_run : Bor (List ℕ) → ℕ → RunFault → JobEnd

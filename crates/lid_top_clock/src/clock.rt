@@ -5,7 +5,7 @@ ghost use Rattle.std.specs.Prelude.{◌≡◌, ◌<◌, Bool, List, OnOk, IfErr}
 ghost use Rattle.lid_top_clock.specs.Clocking.{asked_script, after_stations, after_stalls, after_rows, after_trace, IsCounted};
 ghost use Rattle.lid_top_script.specs.Early.{RunsEarly, FetchesEarly};
 ghost use Rattle.lid_stall_text.specs.Holds.{Ascend, listed};
-ghost use Rattle.lid_top_clock.specs.Stops.{UnlessUnwritten};
+ghost use Rattle.lid_top_script.specs.Causes.{IsStoppedJob};
 
 use crate::asked::{Asked, Given};
 use crate::counting::count_rows;
@@ -37,7 +37,7 @@ pub fn run_clock<'a, S: Shelf, O: Sink, R: Threads + AllocGlobal + Sync, G: Gate
     ensures fetched { FetchesEarly S.whole (S.held shelf.old) (asked_script asked.now)
         (S.fetches shelf.old) (S.fetches shelf.new) (S.faults shelf.old) (S.faults shelf.new) result }
     ensures still { OnOk result (O.faults out.new ≡ O.faults out.old) }
-    ensures wanting { IfErr result (UnlessUnwritten (O.faults out.new ≡ O.faults out.old)) }
+    ensures wanting { IfErr result (λ end. IsStoppedJob end → O.faults out.new ≡ O.faults out.old) }
     ensures kept { S.held shelf.new ≡ S.held shelf.old }
 {
     match read_wrapped(workers.rt.alloc(), shelf, &asked.files) {
@@ -60,7 +60,7 @@ fn run_wrapped<'a, S: Shelf, O: Sink, R: Threads + AllocGlobal + Sync, G: Gate>(
     ensures fetched { FetchesEarly S.whole (S.held shelf.old) (after_stations asked.now wrapped.now)
         (S.fetches shelf.old) (S.fetches shelf.new) (S.faults shelf.old) (S.faults shelf.new) result }
     ensures still { OnOk result (O.faults out.new ≡ O.faults out.old) }
-    ensures wanting { IfErr result (UnlessUnwritten (O.faults out.new ≡ O.faults out.old)) }
+    ensures wanting { IfErr result (λ end. IsStoppedJob end → O.faults out.new ≡ O.faults out.old) }
     ensures kept { S.held shelf.new ≡ S.held shelf.old }
 {
     match read_job_stalls(workers.rt.alloc(), shelf, asked.stalls) {
@@ -85,7 +85,7 @@ fn run_stalled<'a, S: Shelf, O: Sink, R: Threads + AllocGlobal + Sync, G: Gate>(
     ensures fetched { FetchesEarly S.whole (S.held shelf.old) (after_stalls asked.now wrapped.now stalls)
         (S.fetches shelf.old) (S.fetches shelf.new) (S.faults shelf.old) (S.faults shelf.new) result }
     ensures still { OnOk result (O.faults out.new ≡ O.faults out.old) }
-    ensures wanting { IfErr result (UnlessUnwritten (O.faults out.new ≡ O.faults out.old)) }
+    ensures wanting { IfErr result (λ end. IsStoppedJob end → O.faults out.new ≡ O.faults out.old) }
     ensures kept { S.held shelf.new ≡ S.held shelf.old }
 {
     match count_rows(workers.rt.alloc(), shelf, wrapped, asked.vec) {
@@ -111,7 +111,7 @@ fn run_counted<'a, S: Shelf, O: Sink, R: Threads + AllocGlobal + Sync, G: Gate>(
         → FetchesEarly S.whole (S.held shelf.old) (after_rows asked.now wrapped.now given.stalls rows)
         (S.fetches shelf.old) (S.fetches shelf.new) (S.faults shelf.old) (S.faults shelf.new) result }
     ensures still { OnOk result (O.faults out.new ≡ O.faults out.old) }
-    ensures wanting { IfErr result (UnlessUnwritten (O.faults out.new ≡ O.faults out.old)) }
+    ensures wanting { IfErr result (λ end. IsStoppedJob end → O.faults out.new ≡ O.faults out.old) }
     ensures kept { S.held shelf.new ≡ S.held shelf.old }
 {
     match judge_trace(wrapped, &asked.trace) {
@@ -138,7 +138,7 @@ fn run_again<'a, S: Shelf, O: Sink, R: Threads + AllocGlobal + Sync, G: Gate>(
         → FetchesEarly S.whole (S.held shelf.old) (after_trace asked.now wrapped.now given.stalls rows)
         (S.fetches shelf.old) (S.fetches shelf.new) (S.faults shelf.old) (S.faults shelf.new) result }
     ensures still { OnOk result (O.faults out.new ≡ O.faults out.old) }
-    ensures wanting { IfErr result (UnlessUnwritten (O.faults out.new ≡ O.faults out.old)) }
+    ensures wanting { IfErr result (λ end. IsStoppedJob end → O.faults out.new ≡ O.faults out.old) }
     ensures kept { S.held shelf.new ≡ S.held shelf.old }
 {
     let checked = &wrapped.checked;

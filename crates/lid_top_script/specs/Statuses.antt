@@ -143,6 +143,8 @@ pub record Run {S O E : Type 0} (asked : Option Job) (files : ShelfView S) (shel
   pub no_job : asked ≡ None → ((status ≡ 2) ⊎ (status ≡ 5)) × (shelf_after ≡ shelf) × (out_after ≡ out)
   pub ran : IfSome asked (λ job. JobRun job files shelf shelf_after sink out out_after
       (Says errs.written errs.pieces errs.faults err err_after) status)
+  -- no write of the output failed but at 4
+  pub counted : status ≢ 4 → sink.faults out_after ≡ sink.faults out
   -- no fetch changes what is held
   pub kept : files.held shelf_after ≡ files.held shelf
   -- 0: nothing is said

@@ -24,6 +24,7 @@ use Rattle.lid_walk_machine.specs.Machine.{begun}
 use Rattle.lid_shell.specs.declared.actor.Actor.{Actor}
 use Rattle.lid_shell.specs.Actors.{IsActor}
 use Rattle.lid_walk.specs.declared.ends.NodeWiring.{NodeWiring}
+use Rattle.lid_walk.specs.declared.ends.FillWiring.{FillWiring}
 use Rattle.lid_walk.specs.Setups.{IsSetupOf}
 
 -- the stations below a number that an actor drains, and those that it fills
@@ -71,6 +72,11 @@ pub record AreEndsBy (side : Side) (q : Placing) (lists : List (Vec ℕ Global))
 pub record AreWired (q : Placing) (x : NodeWiring) : Type 0 where
   pub placed : ArePlacesOf q.system x.places
   pub drained : AreEndsBy Drain q x.ins.items
+  pub filled : AreEndsBy Fill q x.outs.items
+
+-- so are they, as far as tokens at the start want it
+pub record AreFillsWired (q : Placing) (x : FillWiring) : Type 0 where
+  pub placed : ArePlacesOf q.system x.places
   pub filled : AreEndsBy Fill q x.outs.items
 
 -- actor v of each setup of a system, its stations and its rows, which has not fired

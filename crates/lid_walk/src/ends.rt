@@ -1,7 +1,7 @@
 //! The stations at which nodes take tokens, and those at which they put them.
 
 ghost use Rattle.std.specs.Prelude.{◌<◌, length, IfOk, OnOk};
-ghost use Rattle.lid_walk.specs.Inside.{AreEmpty, HasEnd, AreEndsBy, AreWired};
+ghost use Rattle.lid_walk.specs.Inside.{AreEmpty, HasEnd, AreEndsBy, AreWired, AreFillsWired};
 
 use lid_shell_nodes::TokenPlaces;
 use lid_station::Side;
@@ -10,7 +10,7 @@ use lid_system::Channel;
 use std::alloc::{AllocError, Global};
 
 /// So many lists without stations.
-fn empties(alloc: Global, count: usize) -> Result<Vec<Vec<u32>>, AllocError>
+fn no_stations(alloc: Global, count: usize) -> Result<Vec<Vec<u32>>, AllocError>
     ensures { IfOk result (λ lists. AreEmpty count lists.items) }
 {
     let mut lists = Vec::new(alloc);
@@ -50,7 +50,7 @@ pub(crate) fn stations_by(
 ) -> Result<Vec<Vec<u32>>, AllocError>
     ensures { IfOk result (λ lists. AreEndsBy side placed.now lists.items) }
 {
-    let mut lists = empties(alloc, placed.system.nodes.len())?;
+    let mut lists = no_stations(alloc, placed.system.nodes.len())?;
     let mut first = 0u32;
     for c in 0..placed.placement.relays.len() {
         let last = first + placed.placement.relays.as_slice()[c];
@@ -78,5 +78,23 @@ impl NodeWiring {
         let ins = stations_by(alloc, placed, Side::Drain)?;
         let outs = stations_by(alloc, placed, Side::Fill)?;
         Ok(NodeWiring { places, ins, outs })
+    }
+}
+
+/// What tokens at the start want of it: where the tokens that nodes take stand, and the stations that each node fills.
+#[derive(Drop)]
+pub(crate) struct FillWiring {
+    pub(crate) places: TokenPlaces,
+    pub(crate) outs: Vec<Vec<u32>>,
+}
+
+impl FillWiring {
+    /// That of all nodes. It goes twice over all channels.
+    pub(crate) fn of(alloc: Global, placed: &Placed<'_>) -> Result<FillWiring, AllocError>
+        ensures { IfOk result (AreFillsWired placed.now) }
+    {
+        let places = TokenPlaces::of(alloc, placed.system)?;
+        let outs = stations_by(alloc, placed, Side::Fill)?;
+        Ok(FillWiring { places, outs })
     }
 }

@@ -7,9 +7,9 @@ ghost use Rattle.lid_walk_machine.specs.Setups.{plan};
 ghost use Rattle.lid_shell_laws.specs.Setups.{Setup, IsInputRow};
 ghost use Rattle.lid_walk.specs.Setups.{IsSetupOf};
 ghost use Rattle.lid_walk.specs.Firsts.{first_tokens};
-ghost use Rattle.lid_walk.specs.Inside.{AreWired, AreWritten, HasFirsts, BeginsWith};
+ghost use Rattle.lid_walk.specs.Inside.{AreFillsWired, AreWritten, HasFirsts, BeginsWith};
 
-use crate::ends::NodeWiring;
+use crate::ends::FillWiring;
 use crate::tokens::node_tokens;
 use lid_shell::actors_go_by_rules;
 use lid_stations::Placed;
@@ -33,12 +33,12 @@ fn write_tokens(stations: &[u32], tokens: &[u32], firsts: &mut [Option<u32>])
 fn write_node(
     alloc: Global,
     placed: &Placed<'_>,
-    wiring: &NodeWiring,
+    wiring: &FillWiring,
     node: u32,
     row: &[bool],
     firsts: &mut [Option<u32>],
 ) -> Result<(), AllocError>
-    requires wired { AreWired placed.now wiring.now }
+    requires wired { AreFillsWired placed.now wiring.now }
     requires node { node + 1 < length placed.now.system.nodes }
     requires row { IsInputRow placed.now.system row.now }
     requires many { length firsts.old ≡ station_count placed.now.placement.relays }
@@ -66,7 +66,7 @@ fn write_nodes(
     ensures firsts { OnOk result ((m : Setup) → BeginsWith m placed.now row.now → HasFirsts m 0 firsts.old
         → HasFirsts m (length placed.now.system.nodes - 1) firsts.new) }
 {
-    let wiring = NodeWiring::of(alloc, placed)?;
+    let wiring = FillWiring::of(alloc, placed)?;
     for node in 0..placed.system.nodes.len() as u32 - 1 {
         write_node(alloc, placed, &wiring, node, row, firsts)?;
     }

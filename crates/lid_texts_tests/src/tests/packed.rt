@@ -7,8 +7,9 @@ use lid_texts_feed::read_packed;
 use lid_texts_packed::{PackedRows, packed_text};
 use std::alloc::{AllocError, Global};
 
-/// A text, its one-letter columns, what is told of it, and how its rows are written.
-static TEXTS: [(&[u8], &[u8], Told, &[u8]); 8] = [
+/// A text, its one-letter columns, what is told of it, and how its rows are written. A row of 70 columns takes two
+/// words.
+static TEXTS: [(&[u8], &[u8], Told, &[u8]); 9] = [
     (
         b"d e f\n010\n1 1 1\n",
         b"def",
@@ -26,6 +27,18 @@ static TEXTS: [(&[u8], &[u8], Told, &[u8]); 8] = [
         b"abcdefghijklm",
         NO_FAULT,
         b"a b c d e f g h i j k l m\n1000000000001\n0111111111110\n1010101010101\n0101010101010\n1100110011001\n0000000000001\n",
+    ),
+    (
+        b"a b c d e f g h i j k l m n o p q r s t u v w x y z A B C D E F G H I \
+J K L M N O P Q R S T U V W X Y Z 0 1 2 3 4 5 6 7 8 9 _ . : ; , + * !\n\
+1000000000000000000000000000000000000000000000000000000000000011100001\n\
+1011111111111111111111111111111111111111111111111111111111111110011101\n",
+        b"abcdefghijklmnopqrstuvwxyzABCDEFGHIJKLMNOPQRSTUVWXYZ0123456789_.:;,+*!",
+        NO_FAULT,
+        b"a b c d e f g h i j k l m n o p q r s t u v w x y z A B C D E F G H I \
+J K L M N O P Q R S T U V W X Y Z 0 1 2 3 4 5 6 7 8 9 _ . : ; , + * !\n\
+1000000000000000000000000000000000000000000000000000000000000011100001\n\
+1011111111111111111111111111111111111111111111111111111111111110011101\n",
     ),
     (b"-\n-\n-\n", b"", NO_FAULT, b"-\n-\n-\n"),
     (b"d\n", b"d", NO_FAULT, b"d\n"),

@@ -1,7 +1,7 @@
-use Rattle.std.proofs.Common.{◌∙◌, ap}
-use Rattle.lid_check_names.specs.Names.{with_name}
+use Rattle.lid_base.proofs.Results.{on_ok}
+use Rattle.lid_check_names.specs.Names.{texts}
 use Rattle.lid_check_hierarchy.proofs.Growing.{grows_name}
 use Rattle.lid_check_hierarchy.proofs.clocks.add_name.Goals as goal
 
 pub returns : goal.returns
-returns c = grows_name c.args.set.now c.add.new.self c.args.name.now (c.in_ok-add.ensures.added ∙ ap (with_name c.args.set.now) c.as_slice.ensures)
+returns c = on_ok c.push_name.result (grows_name (texts c.args.list.now.items) (texts c.push_name.new.list.items) c.args.name.now) c.push_name.ensures

@@ -4,8 +4,8 @@ use Rattle.lid_size_forward.specs.ForwardParts.{no_ratio}
 use Rattle.lid_size.proofs.Refuted.{refuted}
 use Rattle.lid_size.proofs.testing.is_below.Goals as goal
 
-pub returns : goal.returns
-returns c g n caps ratios is lower =
+pub returns-clause-refuted : goal.returns-clause-refuted
+returns-clause-refuted c g n caps ratios is lower =
     let want = get_or c.args.wants.now c.args.way.from no_ratio in
     let less = ltb-true (want.q * c.from.result) (want.p * c.from-2.result) lower in
     refuted g n c.args.wants.now caps c.args.way is

@@ -10,7 +10,7 @@ pub returns-clause-state : goal.returns-clause-state
 returns-clause-state c = c.take_bits.ensures ∙ ap (map (bit_at c.settle_by_width.new.bits)) c.as_slice-3.ensures.value
 
 pub returns-clause-bits : goal.returns-clause-bits
-returns-clause-bits c row f read fits k h =
+returns-clause-bits c row f read fits k settled =
     let p = c.args.layout.now in
     let held = c.put_bits.ensures.bits f [] (ap (map f) c.as_slice.ensures.value ∙ fits.latches) (λ k none. absurd none) in
     let held' = subst (λ (ks : List ℕ). AreRightAt f (ks ++ []) c.put_bits.new.bits) c.as_slice.ensures.value held in
@@ -18,4 +18,4 @@ returns-clause-bits c row f read fits k h =
     let put' = subst (λ (ks : List ℕ). AreRightAt f (ks ++ (p.held.items ++ [])) c.put_bits-2.new.bits) c.as_slice-2.ensures.value put in
     let same = sym c.requires.engine.covers in
     c.settle_by_width.ensures.bits f (known_first p) (subst (λ (cs : List FlatCover). IsRow cs f) same fits.covers) (subst (ReadEarlier (known_first p)) same c.requires.runnable.earlier) put' k
-    (subst (λ (cs : List FlatCover). Among k (known_after (known_first p) cs)) same (c.requires.runnable.all k h))
+    (subst (λ (cs : List FlatCover). Among k (known_after (known_first p) cs)) same settled)

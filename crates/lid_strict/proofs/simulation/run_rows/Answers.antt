@@ -28,7 +28,7 @@ loop-t-preserved g c =
     let new = c.run_row.new in
     let is = c.run_row.ensures in
     let read = c.read_row.ensures ∙ ap (map (bit_at row)) c.as_slice.ensures.value in
-    let next = runs_next p outs rows t c.loop-t.state new.state new.bits row c.pick.new.into c.loop-t.results.rows c.requires.runnable.taken c.requires.outs h refl c.loop-t.invariant.5 is.state (λ f fits. is.bits row f read fits) c.pick.ensures in (
+    let next = runs_next p outs rows t c.loop-t.state new.state new.bits row c.pick.new.into c.loop-t.results.rows c.requires.runnable.settled c.requires.outs h refl c.loop-t.invariant.5 is.state (λ f fits. is.bits row f read fits) c.pick.ensures in (
       is.state_size,
       ap (λ (bs : List Bool). length bs) read ∙ length-map p.places.items (bit_at row),
       is.bits_size,

@@ -7,10 +7,10 @@ use Rattle.lid_check_digraph.specs.Graphs.{IsOrder}
 use Rattle.lid_check_elab.specs.declared.driver.ColumnDriver.{ColumnDriver}
 use Rattle.lid_check_elab.specs.Elaborations.{shown_driver}
 use Rattle.lid_texts_packed.specs.Rows.{WideRows}
-use Rattle.lid_strict.specs.Networks.{AreHeldBelow, driver_list, reads_of, rows_at}
+use Rattle.lid_strict.specs.Networks.{AreTakenBelow, driver_list, reads_of, rows_at}
 use Rattle.lid_check_parts.specs.Parts.{HasCover}
 use Rattle.lid_check.proofs.Flats.{covers}
-use Rattle.lid_strict.proofs.Outputs.{held_below, strict_output}
+use Rattle.lid_strict.proofs.Outputs.{taken_below, strict_output}
 use Rattle.lid_strict.proofs.whole.run.Goals as goal
 
 pub simulate-requires-clause-ordered : goal.simulate-requires-clause-ordered
@@ -25,11 +25,11 @@ simulate-requires-clause-covers g c =
     subst (AllByRecursion (HasCover d)) (sym c.as_slice-drivers.ensures)
     (covers d c.args.network.now.columns.drivers c.args.network.now.columns.starts c.requires.network.elaborated c.requires.formed)
 
-pub simulate-requires-clause-held : goal.simulate-requires-clause-held
-simulate-requires-clause-held g c =
+pub simulate-requires-clause-taken : goal.simulate-requires-clause-taken
+simulate-requires-clause-taken g c =
     let d = c.args.design.now in
-    subst (λ (ds : List ColumnDriver). AreHeldBelow (map (shown_driver d) ds)) (sym c.as_slice-drivers.ensures)
-    (held_below d c.args.network.now.columns.drivers c.args.network.now.columns.starts c.requires.network.elaborated)
+    subst (λ (ds : List ColumnDriver). AreTakenBelow (map (shown_driver d) ds)) (sym c.as_slice-drivers.ensures)
+    (taken_below d c.args.network.now.columns.drivers c.args.network.now.columns.starts c.requires.network.elaborated)
 
 pub simulate-requires-clause-outs : goal.simulate-requires-clause-outs
 simulate-requires-clause-outs g c =

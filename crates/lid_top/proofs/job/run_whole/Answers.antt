@@ -1,6 +1,5 @@
 use Rattle.std.proofs.Common.{ap}
 use Rattle.lid_base.proofs.Results.{if_err}
-use Rattle.lid_top.proofs.Counts.{unless_stopped}
 use Rattle.lid_top.proofs.Fetched.{job_written, job_untold}
 use Rattle.lid_top.proofs.job.run_whole.Goals as goal
 
@@ -12,4 +11,4 @@ returns-in-Err-clause-fetched g c = job_untold c.in-Err.stop c.in-Err.ensures
 
 pub returns-in-Ok-clause-wanting : goal.returns-in-Ok-clause-wanting
 returns-in-Ok-clause-wanting g c =
-    if_err c.write_text.result (λ end stopped. unless_stopped end (λ at. ap g.O.Sink.faults (stopped at).1)) c.write_text.ensures.stopped
+    if_err c.write_text.result (λ end stopped at. ap g.O.Sink.faults (stopped at).1) c.write_text.ensures.stopped

@@ -4,9 +4,9 @@ use Rattle.lid_strict.proofs.Accepted.{table_of}
 use Rattle.lid_texts_feed.specs.Fetching.{HasGiven}
 use Rattle.lid_top_script.specs.Wrapped.{Wrapping}
 use Rattle.lid_top_clock.specs.Clocking.{IsCounted}
-use Rattle.lid_top_clock.specs.Stops.{UnlessUnwritten}
+use Rattle.lid_top_script.specs.Causes.{IsStoppedJob}
 use Rattle.lid_top_clock.proofs.Runs.{source_named, runs_whole, runs_in_part, runs_outside, fetched_whole, fetched_in_part, fetched_outside}
-use Rattle.lid_top_clock.proofs.Counts.{end_unless}
+use Rattle.lid_top_clock.proofs.Counts.{end_stopped}
 use Rattle.lid_top_clock.proofs.Feedings.{fed_first}
 use Rattle.lid_top_script.proofs.EarlyFetches.{early_wanting}
 use Rattle.lid_top_clock.proofs.clock.run_again.Goals as goal
@@ -73,6 +73,5 @@ returns-clause-fetched g c = λ rows counted.
     (c.in-Err.ensures.fetched old begins))
 
 pub returns-clause-wanting : goal.returns-clause-wanting
-returns-clause-wanting g c =
-    subst (UnlessUnwritten (g.O.Sink.faults c.run.new.out ≡ g.O.Sink.faults c.args.out.now)) (sym c.run_end.ensures)
-    (end_unless (g.O.Sink.faults c.run.new.out ≡ g.O.Sink.faults c.args.out.now) _ _ c.in-Err.fault c.in-Err.ensures.wanting)
+returns-clause-wanting g c stopped =
+    end_stopped (g.O.Sink.faults c.run.new.out ≡ g.O.Sink.faults c.args.out.now) _ _ c.in-Err.fault c.in-Err.ensures.wanting (subst IsStoppedJob c.run_end.ensures stopped)

@@ -8,11 +8,11 @@ const FEW_NAMES: usize = 256;
 /// Hashers that begin with a number of their set. Of many names it is a sum of all of them, so that names
 /// which meet in one hash are hashed by another as soon as they stand together.
 #[derive(Clone, Copy)]
-pub struct Seeded {
+pub struct Hashers {
     start: FoldHasher,
 }
 
-impl BuildHasher for Seeded {
+impl BuildHasher for Hashers {
     type Hasher = FoldHasher;
 
     ghost build_hasher = { λ s. s.start };
@@ -22,21 +22,21 @@ impl BuildHasher for Seeded {
     }
 }
 
-impl Seeded {
+impl Hashers {
     /// The hashers of a set of names that are not known yet.
-    pub fn plain() -> Seeded {
-        Seeded {
+    pub fn plain() -> Hashers {
+        Hashers {
             start: FoldHasher::default(),
         }
     }
 
     /// The hashers of a set of some names.
-    pub fn of(names: &[&[u8]]) -> Seeded {
+    pub fn of(names: &[&[u8]]) -> Hashers {
         let mut start = FoldHasher::default();
         if names.len() >= FEW_NAMES {
             start.write_u64(sum_of(names));
         }
-        Seeded { start }
+        Hashers { start }
     }
 }
 

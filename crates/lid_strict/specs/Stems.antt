@@ -1,0 +1,33 @@
+-- Stems: a connection has the stem of the number that it connects to, and all else is its own stem.
+use Rattle.std.specs.Prelude.{◌≡◌, ℕ, List, [], ◌∷◌, map, slice_index_or}
+use Rattle.lid_base.specs.Lists.{Among}
+use Rattle.lid_design.specs.declared.FlatLatch.{FlatLatch}
+use Rattle.lid_design.specs.declared.FlatCover.{FlatCover}
+use Rattle.lid_design.specs.Network.{Driver, from_input, from_latch, from_cover, from_connection}
+use Rattle.lid_strict.specs.Networks.{driver_at}
+
+-- the stem of a number
+abbrev pub stem_at : List ℕ → ℕ → ℕ
+stem_at stems k = slice_index_or stems k 0
+
+-- the stem of number k by its driver
+abbrev pub stem_by : List ℕ → ℕ → Driver ℕ → ℕ
+stem_by stems k (from_input j) = k
+stem_by stems k (from_latch first input) = k
+stem_by stems k (from_cover cover inputs) = k
+stem_by stems k (from_connection other) = stem_at stems other
+
+-- each number of an order has its stem
+abbrev pub AreStems : List (Driver ℕ) → List ℕ → List ℕ → Type 0
+AreStems network order stems = (k : ℕ) → Among k order → stem_at stems k ≡ stem_by stems k (driver_at network k)
+
+-- the cover that gives number k its bit, which reads stems; there is none where a connection does
+abbrev pub stem_covers : List ℕ → ℕ → Driver ℕ → List FlatCover
+stem_covers stems k (from_input j) = []
+stem_covers stems k (from_latch first input) = []
+stem_covers stems k (from_cover cover inputs) = record { ins = map (stem_at stems) inputs; out = k; cover = cover } ∷ []
+stem_covers stems k (from_connection other) = []
+
+-- the stem of what a latch reads
+abbrev pub latch_stem : List ℕ → FlatLatch → ℕ
+latch_stem stems latch = stem_at stems latch.input
