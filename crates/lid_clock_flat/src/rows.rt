@@ -1,37 +1,40 @@
 //! The flat run over rows that are held at hand, in which nobody is held.
 
-ghost use Rattle.std.specs.Prelude.{◌≡◌, ◌↔◌, ◌<◌, ◌≤◌, ℕ, suc, true, false, length, option_map, slice_get, IfOk};
+ghost use Rattle.std.specs.Prelude.{◌≡◌, ◌↔◌, ◌<◌, ◌≤◌, ℕ, suc, true, false, Bool, List, [], length, option_map, slice_get, slice_index_or, IfOk};
 ghost use Rattle.std.specs.List.{AllByRecursion};
 ghost use Rattle.lid_stations.specs.Placements.{station_count};
 ghost use Rattle.lid_shell_laws.specs.Setups.{IsInputRow};
 ghost use Rattle.lid_clock.specs.Lives.{Life, NeedsRow, IsBelow, IsLast, shown_after};
 ghost use Rattle.lid_clock.specs.Ran.{lent};
 ghost use Rattle.lid_clock.specs.Clocks.{IsFreeLife, IsOver};
+ghost use Rattle.lid_texts_packed.specs.Input.{input_of};
 ghost use Rattle.lid_clock_flat.specs.Feeds.{Feeds, IsFeeding};
 
 use crate::clock::FlatClock;
 use lid_base::{Items, Shown};
 use lid_stations::Placed;
+use lid_system::shells_stand_between_source_and_sink;
 use lid_texts::Rows;
+use lid_texts_packed::InputRows;
 use std::alloc::{AllocError, Global};
 
 /// A flat run over rows that are held at hand, in which nobody is held.
 #[derive(Drop)]
 pub struct FlatRows<'r> {
     clock: FlatClock,
-    input: &'r Rows,
+    input: InputRows<'r>,
+    /// The row that the run was given last.
+    row: Vec<bool>,
     /// How many rows the run was given.
     given: usize,
 }
 
-/// The first row, where there is one.
-fn first_of(rows: &Rows) -> Option<&[bool]>
-    ensures { option_map (λ row. row.now) result ≡ slice_get rows.now.bits 0 }
+/// The first of so many rows, where there is one.
+fn first_of(row: &[bool], count: usize) -> Option<&[bool]>
+    ensures { (rows : List (List Bool)) → length rows ≡ count → row.now ≡ slice_index_or rows 0 []
+        → option_map (λ row. row.now) result ≡ slice_get rows 0 }
 {
-    match rows.bits.as_slice().first() {
-        Some(row) => Some(row.as_slice()),
-        None => None,
-    }
+    if count > 0 { Some(row) } else { None }
 }
 
 impl<'r> FlatRows<'r> {
@@ -50,13 +53,32 @@ impl<'r> FlatRows<'r> {
         ensures { IfOk result (λ x. (l : Life) → IsFreeLife l rows.now.bits → l.setup.system ≡ placed.now.system
             → l.setup.placement ≡ placed.now.placement → Feeds l 0 x) }
     {
-        let count = rows.bits.len();
+        FlatRows::start_over(alloc, placed, InputRows::Held(rows))
+    }
+
+    /// Starts a run over rows that are held or packed, as `start` does.
+    ///
+    /// # Errors
+    /// Want of memory.
+    pub fn start_over(
+        alloc: Global,
+        placed: &Placed<'_>,
+        rows: InputRows<'r>,
+    ) -> Result<FlatRows<'r>, AllocError>
+        requires few { length (input_of rows) ≤ 1000000 }
+        requires wide { AllByRecursion (IsInputRow placed.now.system) (input_of rows) }
+        ensures { IfOk result (λ x. (l : Life) → IsFreeLife l (input_of rows.entry) → l.setup.system ≡ placed.now.system
+            → l.setup.placement ≡ placed.now.placement → Feeds l 0 x) }
+    {
+        let count = rows.len();
+        let row = rows.first(alloc)?;
         let none = Items::from_vec(Vec::new(alloc));
-        let first = first_of(rows);
+        let first = first_of(row.as_slice(), count);
         let clock = FlatClock::start(alloc, placed, count as u64, first, none)?;
         Ok(FlatRows {
             clock,
             input: rows,
+            row,
             given: count.min(1),
         })
     }
@@ -66,9 +88,10 @@ impl<'r> FlatRows<'r> {
         requires { IsFeeding self.old }
         ensures { (l : Life) (k : ℕ) → Feeds l k self.old → Feeds l k self.new × ¬ NeedsRow l k self.new.given }
     {
+        shells_stand_between_source_and_sink();
         if self.clock.needs() {
-            self.clock
-                .give(self.input.bits.as_slice()[self.given].as_slice());
+            self.input.read(self.given, self.row.as_mut_slice());
+            self.clock.give(self.row.as_slice());
             self.given += 1;
         }
     }

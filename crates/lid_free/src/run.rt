@@ -5,6 +5,7 @@ ghost use Rattle.std.specs.List.{AllByRecursion};
 ghost use Rattle.lid_system.specs.Systems.{IsWellFormed};
 ghost use Rattle.lid_stations.specs.Placements.{Fits};
 ghost use Rattle.lid_shell_laws.specs.Setups.{Setup, IsInputRow};
+ghost use Rattle.lid_texts_packed.specs.Input.{input_of};
 ghost use Rattle.lid_walk.specs.Setups.{IsSetupOf};
 ghost use Rattle.lid_free.specs.Gathering.{AreGathered};
 ghost use Rattle.lid_free.specs.Settings.{IsSetOut};
@@ -13,11 +14,12 @@ ghost use Rattle.lid_free.specs.Endings.{IsEnding};
 
 use crate::ending::settle;
 use crate::gathering::{Left, gather, note_fired, note_passed, run_all};
-use crate::setting::{Room, Setting, set_out};
+use crate::setting::{Room, Setting, set_out_over};
 use lid_base::{Gate, Items, Tally};
 use lid_stations::Placement;
 use lid_system::System;
 use lid_texts::Rows;
+use lid_texts_packed::InputRows;
 use lid_walk::Walk;
 use std::alloc::{AllocError, Global};
 use std::thread::Threads;
@@ -124,6 +126,32 @@ pub fn free_run<R: Threads + Sync, G: Gate>(
     requires rounds { rounds ≤ 1000000 }
     ensures { IfOk result (λ end. (m : Setup) → IsSetupOf m system.now placement.now rows.now.bits → IsFreeEnd m workers rounds end) }
 {
-    let setting = set_out(alloc, system, placement, rows, workers)?;
+    let rows = InputRows::Held(rows);
+    free_run_over(rt, alloc, system, placement, rows, workers, rounds, gate)
+}
+
+/// Makes a free run over input rows that are held or packed, as [`free_run`] does.
+///
+/// # Errors
+/// Memory is wanting.
+pub fn free_run_over<R: Threads + Sync, G: Gate>(
+    rt: &R,
+    alloc: Global,
+    system: &System,
+    placement: &Placement,
+    rows: InputRows<'_>,
+    workers: u32,
+    rounds: u64,
+    gate: &G,
+) -> Result<FreeEnd, AllocError>
+    requires system { IsWellFormed system.now }
+    requires fits { Fits system.now placement.now }
+    requires few { length (input_of rows) ≤ 1000000 }
+    requires wide { AllByRecursion (IsInputRow system.now) (input_of rows) }
+    requires some { (0 < workers) × (workers ≤ 64) }
+    requires rounds { rounds ≤ 1000000 }
+    ensures { IfOk result (λ end. (m : Setup) → IsSetupOf m system.now placement.now (input_of rows.entry) → IsFreeEnd m workers rounds end) }
+{
+    let setting = set_out_over(alloc, system, placement, rows, workers)?;
     Ok(run_out(rt, setting, rounds, gate))
 }

@@ -6,6 +6,7 @@ ghost use Rattle.lid_graph.specs.Walks.{no_edge};
 ghost use Rattle.lid_system.specs.Systems.{IsWellFormed};
 ghost use Rattle.lid_stations.specs.Placements.{Fits};
 ghost use Rattle.lid_shell_laws.specs.Setups.{Setup, IsInputRow};
+ghost use Rattle.lid_texts_packed.specs.Input.{input_of};
 ghost use Rattle.lid_walk.specs.Setups.{IsSetupOf};
 ghost use Rattle.lid_free.specs.Settings.{AreBoards, AreEndsGiven, IsCrewOf, IsRoomFor, IsSetOut};
 ghost use Rattle.lid_free.specs.Workers.{AreOwners};
@@ -21,7 +22,8 @@ use lid_station::PlainBoard;
 use lid_stations::{Placed, Placement, marking};
 use lid_system::System;
 use lid_texts::Rows;
-use lid_walk::{all_actors, first_tokens};
+use lid_texts_packed::InputRows;
+use lid_walk::{actors_over, firsts_over};
 use std::alloc::{AllocError, Global};
 
 /// The shared board with the hand that keeps its ends, and the plain board that it ends as.
@@ -33,13 +35,13 @@ pub(crate) struct Boards {
 }
 
 /// The boards of a run at its start.
-fn start_boards(alloc: Global, placed: &Placed<'_>, rows: &Rows) -> Result<Boards, AllocError>
-    requires few { length rows.now.bits ≤ 1000000 }
-    requires wide { AllByRecursion (IsInputRow placed.now.system) rows.now.bits }
-    ensures { IfOk result (λ boards. (m : Setup) → IsSetupOf m placed.now.system placed.now.placement rows.now.bits → AreBoards m boards) }
+fn start_boards(alloc: Global, placed: &Placed<'_>, rows: InputRows<'_>) -> Result<Boards, AllocError>
+    requires few { length (input_of rows) ≤ 1000000 }
+    requires wide { AllByRecursion (IsInputRow placed.now.system) (input_of rows) }
+    ensures { IfOk result (λ boards. (m : Setup) → IsSetupOf m placed.now.system placed.now.placement (input_of rows.entry) → AreBoards m boards) }
 {
     runs_go_by_rules();
-    let firsts = first_tokens(alloc, placed, rows)?;
+    let firsts = firsts_over(alloc, placed, rows)?;
     let course = StrictCourse {
         system: placed.system,
         placement: placed.placement,
@@ -133,16 +135,16 @@ impl Crew<'_> {
 fn start_crew<'r>(
     alloc: Global,
     placed: &Placed<'_>,
-    rows: &'r Rows,
+    rows: InputRows<'r>,
     boards: &mut Boards,
     workers: u32,
 ) -> Result<Crew<'r>, AllocError>
-    requires few { length rows.now.bits ≤ 1000000 }
-    requires wide { AllByRecursion (IsInputRow placed.now.system) rows.now.bits }
+    requires few { length (input_of rows) ≤ 1000000 }
+    requires wide { AllByRecursion (IsInputRow placed.now.system) (input_of rows) }
     requires some { 0 < workers }
-    requires boards { (m : Setup) → IsSetupOf m placed.now.system placed.now.placement rows.now.bits → AreBoards m boards.old }
-    ensures given { OnOk result ((m : Setup) → IsSetupOf m placed.now.system placed.now.placement rows.now.bits → AreEndsGiven m boards.new) }
-    ensures crew { IfOk result (λ crew. (m : Setup) → IsSetupOf m placed.now.system placed.now.placement rows.now.bits
+    requires boards { (m : Setup) → IsSetupOf m placed.now.system placed.now.placement (input_of rows) → AreBoards m boards.old }
+    ensures given { OnOk result ((m : Setup) → IsSetupOf m placed.now.system placed.now.placement (input_of rows.entry) → AreEndsGiven m boards.new) }
+    ensures crew { IfOk result (λ crew. (m : Setup) → IsSetupOf m placed.now.system placed.now.placement (input_of rows.entry)
         → IsCrewOf m boards.new.board workers crew) }
 {
     runs_go_by_rules();
@@ -155,7 +157,7 @@ fn start_crew<'r>(
         owners.as_slice(),
         workers,
     )?;
-    let dealt = all_actors(alloc, placed, rows)?;
+    let dealt = actors_over(alloc, placed, rows)?;
     let actors = dealt.len();
     deal(dealt, hired.as_mut_slice())?;
     Ok(Crew {
@@ -196,6 +198,28 @@ pub fn set_out<'r>(
     ensures setup { OnOk result ((m : Setup) × IsSetupOf m system.now placement.now rows.now.bits) }
     ensures set { IfOk result (λ setting. (m : Setup) → IsSetupOf m system.now placement.now rows.now.bits → IsSetOut m workers setting) }
 {
+    set_out_over(alloc, system, placement, InputRows::Held(rows), workers)
+}
+
+/// Sets out a free run over input rows that are held or packed, as [`set_out`] does.
+///
+/// # Errors
+/// Memory is wanting.
+pub fn set_out_over<'r>(
+    alloc: Global,
+    system: &System,
+    placement: &Placement,
+    rows: InputRows<'r>,
+    workers: u32,
+) -> Result<Setting<'r>, AllocError>
+    requires system { IsWellFormed system.now }
+    requires fits { Fits system.now placement.now }
+    requires few { length (input_of rows) ≤ 1000000 }
+    requires wide { AllByRecursion (IsInputRow system.now) (input_of rows) }
+    requires some { 0 < workers }
+    ensures setup { OnOk result ((m : Setup) × IsSetupOf m system.now placement.now (input_of rows.entry)) }
+    ensures set { IfOk result (λ setting. (m : Setup) → IsSetupOf m system.now placement.now (input_of rows.entry) → IsSetOut m workers setting) }
+{
     runs_go_by_rules();
     let placed = Placed { system, placement };
     let mut boards = start_boards(alloc, &placed, rows)?;
@@ -205,6 +229,6 @@ pub fn set_out<'r>(
         boards,
         crew,
         room,
-        rows: rows.bits.len(),
+        rows: rows.len(),
     })
 }

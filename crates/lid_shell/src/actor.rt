@@ -10,6 +10,7 @@ ghost use Rattle.lid_walk_machine.specs.Plans.{actors_of, sink, ins_of, outs_of}
 ghost use Rattle.lid_walk_machine.specs.Setups.{output_rows, plan};
 ghost use Rattle.lid_shell_laws.specs.Setups.{Setup, IsSetup, IsInputRow};
 ghost use Rattle.lid_walk_machine.specs.Machine.{Progress, State, turn, turn_answer};
+ghost use Rattle.lid_texts_packed.specs.Input.{input_of};
 ghost use Rattle.lid_shell.specs.Boards.{ServesAll};
 ghost use Rattle.lid_shell.specs.Parts.{IsSinkRole, AreColumnsAtSink};
 ghost use Rattle.lid_shell.specs.Actors.{IsActor};
@@ -20,7 +21,7 @@ ghost use Rattle.lid_shell.specs.declared.turn.TurnEnd.TheVariants as end;
 
 use crate::building::{mover_desk, new_desk, new_given};
 use crate::desk::{Desk, Next};
-use crate::part::Role;
+use crate::part::{Input, Role};
 use crate::rules::actors_go_by_rules;
 use crate::turn::{TurnEnd, end_of};
 use lid_base::{Answer, Items};
@@ -28,6 +29,7 @@ use lid_shell_nodes::{ShellNode, SinkNode, SourceNode};
 use lid_station::Stations;
 use lid_system::System;
 use lid_texts::Rows;
+use lid_texts_packed::InputRows;
 use std::alloc::{AllocError, Global};
 
 /// An actor: the source, a shell, the sink, or a mover. It goes through the positions of a firing, one step each: it
@@ -55,13 +57,31 @@ impl<'r> Actor<'r> {
         ensures { IfOk result (λ a. (m : Setup) → IsSetup m → m.system ≡ system.now → m.input ≡ rows.now.bits → outs_of (plan m) 0 ≡ outs.now
             → IsActor m 0 (record { fired = 0; position = 0 }) a) }
     {
+        Actor::source_over(alloc, system, InputRows::Held(rows), outs)
+    }
+
+    /// The source of a system over input rows that are held or packed, with these stations as for `source`.
+    ///
+    /// # Errors
+    /// Memory is wanting.
+    pub fn source_over(
+        alloc: Global,
+        system: &System,
+        rows: InputRows<'r>,
+        outs: &[u32],
+    ) -> Result<Actor<'r>, AllocError>
+        requires system { IsWellFormed system.now }
+        ensures { IfOk result (λ a. (m : Setup) → IsSetup m → m.system ≡ system.now → m.input ≡ input_of rows → outs_of (plan m) 0 ≡ outs.now
+            → IsActor m 0 (record { fired = 0; position = 0 }) a) }
+    {
         actors_go_by_rules();
         let node = SourceNode::of(alloc, system)?;
-        let cap = (rows.bits.len() as u64).saturating_sub(1);
+        let row = Vec::from_elem(alloc, false, node.width())?;
+        let cap = (rows.len() as u64).saturating_sub(1);
         let desk = new_desk(alloc, &[], outs, cap)?;
         Ok(Actor {
             desk,
-            part: Role::Source(node, rows),
+            part: Role::Source(node, Input { rows, row }),
         })
     }
 

@@ -5,6 +5,15 @@ ghost use Rattle.std.specs.Prelude.{◌≡◌};
 use lid_base::{Items, Name};
 use lid_shell_nodes::{ShellNode, SinkNode, SourceNode};
 use lid_texts::Rows;
+use lid_texts_packed::InputRows;
+
+/// The input rows, and room for one of them.
+#[derive(Drop)]
+pub(crate) struct Input<'r> {
+    pub(crate) rows: InputRows<'r>,
+    /// The row that was put last.
+    pub(crate) row: Vec<bool>,
+}
 
 /// The rows that a sink has given, and room for those to come.
 #[derive(Drop)]
@@ -20,7 +29,7 @@ pub(crate) struct Given {
 #[derive(Drop)]
 pub(crate) enum Role<'r> {
     /// The source, with all input rows.
-    Source(SourceNode, &'r Rows),
+    Source(SourceNode, Input<'r>),
     /// A shell.
     Shell(ShellNode),
     /// A mover, which moves a token from one station to the next.

@@ -1,14 +1,39 @@
 //! What parts make of tokens.
 
-ghost use Rattle.std.specs.Prelude.{◌≡◌, ℕ, length};
+ghost use Rattle.std.specs.Prelude.{◌≡◌, ◌<◌, ℕ, [], length, slice_index_or};
+ghost use Rattle.lid_design.specs.Network.{Table};
+ghost use Rattle.lid_system.specs.declared.System.{System};
+ghost use Rattle.lid_system.specs.Systems.{Point, IsWellFormed};
+ghost use Rattle.lid_system.specs.Tables.{IsTable};
+ghost use Rattle.lid_shell_nodes.specs.Nodes.{tokens_from};
+ghost use Rattle.lid_shell_nodes.specs.Wiring.{IsSourceOf};
+ghost use Rattle.lid_texts_packed.specs.Input.{input_of};
 ghost use Rattle.lid_walk_machine.specs.Setups.{plan};
 ghost use Rattle.lid_shell_laws.specs.Setups.{Setup};
 ghost use Rattle.lid_shell.specs.Inside.{CanPass, IsPassing, HasPassed, CanReceive, Receives};
 
-use crate::part::{Given, Role};
+use crate::part::{Given, Input, Role};
 use crate::rules::actors_go_by_rules;
 use lid_base::Items;
-use lid_shell_nodes::SinkNode;
+use lid_shell_nodes::{SinkNode, SourceNode};
+
+impl Input<'_> {
+    /// Writes the tokens of a row, one for each channel that comes from the source.
+    fn put(&mut self, node: &SourceNode, row: usize, into: &mut [u32])
+        requires there { row < length (input_of self.old.rows) }
+        requires wide { length (slice_index_or (input_of self.old.rows) row []) ≡ node.now.width }
+        requires room { length self.old.row.items ≡ node.now.width }
+        requires many { length into.old ≡ length node.now.ports }
+        ensures many { length into.new ≡ length into.old }
+        ensures tokens { (s : System) (b : Table Point) → IsWellFormed s → IsSourceOf s node.now → IsTable s (input_of self.old.rows) b
+            → into.new ≡ tokens_from s b 0 row }
+        ensures rows { self.new.rows ≡ self.old.rows }
+        ensures room { length self.new.row.items ≡ length self.old.row.items }
+    {
+        self.rows.read(row, self.row.as_mut_slice());
+        node.put(self.row.as_slice(), into);
+    }
+}
 
 impl Given {
     /// Writes the row of the tokens that are taken into a spare row, and gives it.
@@ -32,9 +57,7 @@ impl Role<'_> {
     {
         actors_go_by_rules();
         match self {
-            Role::Source(node, rows) => {
-                node.put(rows.bits.as_slice()[fired as usize + 1].as_slice(), into)
-            }
+            Role::Source(node, input) => input.put(node, fired as usize + 1, into),
             Role::Shell(node) => node.fire(taken, into),
             Role::Mover => into[0] = taken[0],
             Role::Sink(node, given) => given.receive(node, taken),

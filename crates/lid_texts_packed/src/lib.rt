@@ -2,8 +2,10 @@
 #![tactic(auto)]
 
 mod bits;
+mod input;
 mod rows;
 mod writer;
 
+pub use input::InputRows;
 pub use rows::PackedRows;
 pub use writer::packed_text;

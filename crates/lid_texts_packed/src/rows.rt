@@ -1,6 +1,6 @@
 //! Rows of bits of one width.
 
-ghost use Rattle.std.specs.Prelude.{◌≡◌, ◌<◌, ◌++◌, ◌∷◌, [], false, length, slice_index_or, IfOk, OnOk, OnErr};
+ghost use Rattle.std.specs.Prelude.{◌≡◌, ◌<◌, ℕ, ◌++◌, ◌∷◌, [], false, length, slice_index_or, IfOk, OnOk, OnErr};
 
 use crate::bits::append_row;
 use lid_base::Items;
@@ -42,9 +42,10 @@ impl PackedRows {
         }
     }
 
-    /// How many bits a row has.
+    /// How many bits a row has, and each has as many.
     pub fn width(&self) -> usize
-        ensures { result ≡ self.now.width }
+        ensures is { result ≡ self.now.width }
+        ensures wide { (row : ℕ) → row < length self.now.rows → result ≡ length (slice_index_or self.now.rows row []) }
     {
         self.width
     }

@@ -14,6 +14,7 @@ use lid_base::{Items, Shown};
 use lid_clock_flat::FlatRows;
 use lid_stations::Placed;
 use lid_texts::Trace;
+use lid_texts_packed::InputRows;
 use lid_vcd::write;
 use std::alloc::{AllocError, Global};
 
@@ -77,15 +78,15 @@ fn trace_run(
 
 /// The trace of the clocked run of a system with its stations over these rows, of at most so many cycles.
 fn trace_of(alloc: Global, fed: &Fed<'_>, cycles: u64) -> Result<Trace, AllocError>
-    requires { HasFreeLife fed.now.wrapped.now fed.now.rows.now.bits }
-    ensures { IfOk result (IsTraceOfAll fed.now.wrapped.now fed.now.rows.now.bits cycles) }
+    requires { HasFreeLife fed.now.wrapped.now fed.now.rows.now.rows }
+    ensures { IfOk result (IsTraceOfAll fed.now.wrapped.now fed.now.rows.now.rows cycles) }
 {
     let wrapped = fed.wrapped;
     let placed = Placed {
         system: &wrapped.system,
         placement: &wrapped.placement,
     };
-    let mut run = FlatRows::start(alloc, &placed, fed.rows)?;
+    let mut run = FlatRows::start_over(alloc, &placed, InputRows::Packed(fed.rows))?;
     trace_run(alloc, &mut run, wrapped.placement.caps.len() as u32, cycles)
 }
 
@@ -109,7 +110,7 @@ pub(crate) fn dump_text(alloc: Global, fed: &Fed<'_>, cycles: u64) -> Result<Vec
     requires most { cycles ≤ 1048576 }
     requires cells { station_count fed.now.wrapped.now.placement.relays * cycles ≤ 1048576 }
     ensures { IfOk result (λ text. IsWaveText fed.now.wrapped.now.design (links_of fed.now.wrapped.now.system)
-        fed.now.wrapped.now.placement fed.now.rows.now.bits cycles text.items) }
+        fed.now.wrapped.now.placement fed.now.rows.now.rows cycles text.items) }
 {
     let wrapped = fed.wrapped;
     let _ = wrapped.checked.design();

@@ -10,8 +10,9 @@ ghost use Rattle.lid_stations.specs.Placements.{links_of};
 
 use crate::run::Fed;
 use lid_base::Gate;
-use lid_free::{FreeEnd, free_run};
+use lid_free::{FreeEnd, free_run_over};
 use lid_texts::{print_rows, print_tallies};
+use lid_texts_packed::InputRows;
 use lid_top_script::Stop;
 use std::alloc::{AllocError, Global};
 use std::thread::Threads;
@@ -47,16 +48,16 @@ fn run_text<R: Threads + AllocGlobal + Sync, G: Gate>(
     requires most { workers ≤ 64 }
     requires rounds { rounds ≤ 1000000 }
     ensures { IfOk result (λ text. IsFreeText fed.now.wrapped.now.design (links_of fed.now.wrapped.now.system)
-        fed.now.wrapped.now.placement fed.now.rows.now.bits workers rounds tally text.items) }
+        fed.now.wrapped.now.placement fed.now.rows.now.rows workers rounds tally text.items) }
 {
     let wrapped = fed.wrapped;
     let _ = wrapped.checked.design();
-    let end = free_run(
+    let end = free_run_over(
         rt,
         rt.alloc(),
         &wrapped.system,
         &wrapped.placement,
-        fed.rows,
+        InputRows::Packed(fed.rows),
         workers,
         rounds,
         gate,
@@ -77,7 +78,7 @@ pub(crate) fn freed_text<'a, R: Threads + AllocGlobal + Sync, G: Gate>(
     requires most { workers ≤ 64 }
     requires rounds { rounds ≤ 1000000 }
     ensures { RunsAnywhere (freeing_script fed.now.wrapped.now.design (links_of fed.now.wrapped.now.system)
-        fed.now.wrapped.now.placement workers rounds tally fed.now.rows.now.bits) result }
+        fed.now.wrapped.now.placement workers rounds tally fed.now.rows.now.rows) result }
 {
     match run_text(rt, gate, fed, workers, rounds, tally) {
         Ok(text) => Ok(text),

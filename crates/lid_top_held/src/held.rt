@@ -9,7 +9,7 @@ use crate::run::{Asked, Fed, HeldRun};
 use crate::walking::walked_text;
 use crate::waving::waved_text;
 use lid_base::{Gate, Shelf};
-use lid_top_script::{RowsText, Stop, Wrapped, read_file, read_wrapped};
+use lid_top_script::{PackedText, Stop, Wrapped, read_file, read_wrapped};
 use std::thread::Threads;
 
 /// What is written once the rows are read.
@@ -21,7 +21,7 @@ fn fed_text<'a, R: Threads + AllocGlobal + Sync, S: Shelf, G: Gate>(
     run: HeldRun<'a>,
 ) -> Result<Vec<u8>, Stop<'a>>
     requires { IsSoundRun run }
-    ensures { RunsOn S.whole S.held S.fetches S.faults shelf.old shelf.new (fed_script run.entry fed.now.wrapped.now fed.now.rows.now.bits) result }
+    ensures { RunsOn S.whole S.held S.fetches S.faults shelf.old shelf.new (fed_script run.entry fed.now.wrapped.now fed.now.rows.now.rows) result }
 {
     match run {
         HeldRun::Walk(schedule) => walked_text(rt.alloc(), shelf, fed, schedule),
@@ -47,7 +47,7 @@ fn wrapped_text<'a, R: Threads + AllocGlobal + Sync, S: Shelf, G: Gate>(
         (rows_step wrapped.now.design asked.now.vec.now (fed_script asked.now.run wrapped.now)) result }
 {
     let checked = &wrapped.checked;
-    match read_file(rt.alloc(), shelf, asked.vec, &RowsText { checked }) {
+    match read_file(rt.alloc(), shelf, asked.vec, &PackedText { checked }) {
         Ok(rows) => {
             let fed = Fed {
                 wrapped,

@@ -6,7 +6,7 @@ ghost use Rattle.std.proofs.Props.{props};
 ghost use Rattle.lid_design.specs.Columns.{root_inputs};
 
 use lid_base::{Name, Text};
-use lid_texts::Rows;
+use lid_texts_packed::PackedRows;
 use lid_top_script::{NetFiles, Wrapped};
 use std::convert::AsStr;
 
@@ -62,8 +62,8 @@ impl<'a> Asked<'a> {
 pub(crate) struct Fed<'s> {
     /// The design, with its system and stations.
     pub(crate) wrapped: &'s Wrapped,
-    /// The rows.
-    pub(crate) rows: &'s Rows,
-    ghost few: { length rows.now.bits ≤ 1000000 },
-    ghost wide: { AllByRecursion (λ row. length row ≡ length (root_inputs wrapped.now.design)) rows.now.bits } by { Prim.hlevel props },
+    /// The rows, packed.
+    pub(crate) rows: &'s PackedRows,
+    ghost few: { length rows.now.rows ≤ 1000000 },
+    ghost wide: { AllByRecursion (λ row. length row ≡ length (root_inputs wrapped.now.design)) rows.now.rows } by { Prim.hlevel props },
 }

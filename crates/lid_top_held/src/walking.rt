@@ -16,6 +16,7 @@ ghost use Rattle.lid_walk.specs.Walks.{Walks};
 use crate::run::Fed;
 use lid_base::Shelf;
 use lid_texts::{print_answer, print_rows};
+use lid_texts_packed::InputRows;
 use lid_top_script::{ScheduleText, Stop, Wrapped, read_file};
 use lid_walk::Walk;
 use std::alloc::{AllocError, Global};
@@ -46,11 +47,12 @@ fn walk_on(walk: &mut Walk<'_>, schedule: &[u32], into: &mut Vec<u8>) -> Result<
 fn lines_text(alloc: Global, fed: &Fed<'_>, schedule: &[u32]) -> Result<Vec<u8>, AllocError>
     requires { AllByRecursion (λ v. v < actor_count (links_of fed.now.wrapped.now.system) fed.now.wrapped.now.placement) schedule.now }
     ensures { IfOk result (λ text. IsWalkText fed.now.wrapped.now.design (links_of fed.now.wrapped.now.system)
-        fed.now.wrapped.now.placement fed.now.rows.now.bits schedule.now text.items) }
+        fed.now.wrapped.now.placement fed.now.rows.now.rows schedule.now text.items) }
 {
     let wrapped = fed.wrapped;
     let _ = wrapped.checked.design();
-    let mut walk = Walk::start(alloc, &wrapped.system, &wrapped.placement, fed.rows)?;
+    let rows = InputRows::Packed(fed.rows);
+    let mut walk = Walk::start_over(alloc, &wrapped.system, &wrapped.placement, rows)?;
     let mut text = Vec::new(alloc);
     walk_on(&mut walk, schedule, &mut text)?;
     print_rows(&walk.into_rows(), &mut text)?;
@@ -65,7 +67,7 @@ pub(crate) fn walked_text<'a, S: Shelf>(
     schedule: &'a str,
 ) -> Result<Vec<u8>, Stop<'a>>
     ensures { RunsOn S.whole S.held S.fetches S.faults shelf.old shelf.new (schedule_script fed.now.wrapped.now.design (links_of fed.now.wrapped.now.system)
-        fed.now.wrapped.now.placement schedule.now fed.now.rows.now.bits) result }
+        fed.now.wrapped.now.placement schedule.now fed.now.rows.now.rows) result }
 {
     let actors = actors_of(fed.wrapped);
     match read_file(alloc, shelf, schedule, &ScheduleText { actors }) {

@@ -15,7 +15,7 @@ pub(crate) fn waved_text<'a>(alloc: Global, fed: &Fed<'_>, cycles: u64) -> Resul
     requires some { 1 ≤ cycles }
     requires most { cycles ≤ 1048576 }
     ensures { RunsAnywhere (waving_script fed.now.wrapped.now.design (links_of fed.now.wrapped.now.system)
-        fed.now.wrapped.now.placement cycles fed.now.rows.now.bits) result }
+        fed.now.wrapped.now.placement cycles fed.now.rows.now.rows) result }
 {
     match judge_trace(fed.wrapped, &Some(cycles)) {
         Ok(()) => match dump_text(alloc, fed, cycles) {

@@ -1,6 +1,6 @@
 -- What the answers of the readers say of the readings.
-use Rattle.std.proofs.Common.{◌≡◌, ℕ, ◌<◌, List, length, Option, Some, None, Ok, Err, ◌⊎◌, inl, inr, refl, sym, ◌∙◌, ap, subst}
-use Rattle.std.specs.List.{AllByRecursion}
+use Rattle.std.proofs.Common.{◌≡◌, ℕ, ◌<◌, Bool, List, length, Option, Some, None, Ok, Err, ◌⊎◌, inl, inr, refl, sym, ◌∙◌, ap, subst}
+use Rattle.std.specs.List.{All, AllByRecursion}
 use Rattle.std.proofs.lemmas.List.Elements.{recursion_from_All}
 use Rattle.lid_base.specs.Lines.{logical_lines}
 use Rattle.lid_design.specs.declared.Design.{Design}
@@ -19,7 +19,7 @@ use Rattle.lid_check.specs.Acceptance.{with_root, IsRefused}
 use Rattle.lid_texts.specs.declared.rows.Rows.{Rows}
 use Rattle.lid_texts.specs.declared.rows.VecFault.{VecFault}
 use Rattle.lid_texts.specs.declared.rows.VecFault.TheVariants as rows
-use Rattle.lid_texts.specs.Rows.{rows_reading, IsWide}
+use Rattle.lid_texts.specs.Rows.{rows_reading}
 use Rattle.lid_top_script.specs.Scripts.{Reading, good, bad, unless_faulty, net_reading, IsUnchecked, vec_reading, bits_read}
 use Rattle.lid_top_refusals.specs.Faults.{blif_line, rows_line, check_line}
 use Rattle.lid_top_script.specs.Causes.{Declines, FailsCheck, FailsNet, stop_of_blif, stop_of_rows, stop_of_check, stop_of_net}
@@ -75,9 +75,9 @@ vec_declines d bytes columns outs e c o (inl m) = subst (λ f. Declines (vec_rea
 vec_declines d bytes columns outs e c o (inr h) = rows_declined (vec_reading d bytes) e (vec_bad d bytes columns outs e c o h)
 
 -- rows under the inputs of a design are as wide as the inputs
-pub wide_rows : (r : Rows) (names : List (List ℕ)) → r.columns ≡ names → IsWide r → AllByRecursion (λ row. length row ≡ length names) r.bits
-wide_rows r names e h =
-    subst (λ (l : List (List ℕ)). AllByRecursion (λ row. length row ≡ length l) r.bits) e (recursion_from_All (λ row. length row ≡ length r.columns) r.bits h)
+pub wide_rows : (bits : List (List Bool)) (columns names : List (List ℕ)) → columns ≡ names → All (λ row. length row ≡ length columns) bits → AllByRecursion (λ row. length row ≡ length names) bits
+wide_rows bits columns names e h =
+    subst (λ (l : List (List ℕ)). AllByRecursion (λ row. length row ≡ length l) bits) e (recursion_from_All (λ row. length row ≡ length columns) bits h)
 
 -- a design has too many channels, but for want of memory
 pub net_fails : (d : Design) (e : NetFault) → (e ≡ net.Memory) ⊎ ((channels : List Channel) × IsGraphOf d channels × (16384 < length channels) × (e ≡ net.TooManyChannels (length channels))) → FailsNet d (stop_of_net e)

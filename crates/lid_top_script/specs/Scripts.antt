@@ -114,11 +114,10 @@ bits_read (Err fault) = bad (rows_line fault)
 unfoldable pub vec_reading : Design → List ℕ → Reading (List (List Bool))
 vec_reading d bytes = bits_read (rows_reading (root_inputs d) (length (root_outputs d)) bytes)
 
--- at most 1,000,000 rows under the inputs of a design, each as wide as these
-pub record AreInputRows (d : Design) (rows : Rows) : Type 0 where
-  pub columns : rows.columns ≡ root_inputs d
-  pub wide : AllByRecursion (λ row. length row ≡ length (root_inputs d)) rows.bits
-  pub few : length rows.bits ≤ 1000000
+-- at most 1,000,000 rows for the inputs of a design, each as wide as these
+pub record AreInputRows (d : Design) (rows : List (List Bool)) : Type 0 where
+  pub wide : AllByRecursion (λ row. length row ≡ length (root_inputs d)) rows
+  pub few : length rows ≤ 1000000
 
 -- `strict` of an accepted design: the rows are fetched and read
 unfoldable pub rows_script : Design → List ℕ → Script

@@ -17,7 +17,7 @@ pub use placing::{CertText, WiresText};
 pub use reading::{FileText, read_file};
 pub use scheduling::ScheduleText;
 pub use stalling::read_job_stalls;
-pub use steps::{NetText, PackedText, RowsText, accept};
+pub use steps::{NetText, PackedText, accept};
 pub use tracing::judge_trace;
 pub use wrapped::{Built, NetFiles, Wrapped};
 pub use wrapping::{read_system, read_wrapped};

@@ -16,7 +16,6 @@ use lid_check::{Checked, check};
 use lid_design::Design;
 use lid_net::build;
 use lid_system::System;
-use lid_texts::{Rows, read_rows};
 use lid_texts_feed::read_packed;
 use lid_texts_packed::PackedRows;
 use std::alloc::Global;
@@ -50,40 +49,7 @@ impl FileText for NetText {
     }
 }
 
-/// The text of rows for the inputs of an accepted design.
-#[derive(Clone, Copy)]
-pub struct RowsText<'d> {
-    /// The design.
-    pub checked: &'d Checked,
-}
-
-impl<'d> FileText for RowsText<'d> {
-    type Read = Rows;
-
-    ghost Told = { List (List Bool) };
-
-    ghost told = { λ rows. rows.bits };
-
-    ghost limit = { rows_limit };
-
-    ghost reading = { λ text. vec_reading text.checked.now };
-
-    ghost is_sound = { λ text. AreInputRows text.checked.now };
-
-    fn limit(&self) -> u32 {
-        67_108_864
-    }
-
-    fn read<'a>(&self, alloc: Global, bytes: &[u8]) -> Result<Rows, Stop<'a>> {
-        let outs = self.checked.outputs().len() as u32;
-        match read_rows(alloc, bytes, self.checked.inputs(), outs) {
-            Ok(rows) => Ok(rows),
-            Err(fault) => Err(rows_stop(fault)),
-        }
-    }
-}
-
-/// The same text, with its rows packed.
+/// The text of rows for the inputs of an accepted design. The rows that it stands for are packed.
 #[derive(Clone, Copy)]
 pub struct PackedText<'d> {
     /// The design.
@@ -100,6 +66,8 @@ impl<'d> FileText for PackedText<'d> {
     ghost limit = { rows_limit };
 
     ghost reading = { λ text. vec_reading text.checked.now };
+
+    ghost is_sound = { λ text packed. AreInputRows text.checked.now packed.rows };
 
     fn limit(&self) -> u32 {
         67_108_864

@@ -3,6 +3,7 @@
 ghost use Rattle.std.specs.Prelude.{IfOk};
 ghost use Rattle.lid_shell_laws.specs.Setups.{Setup};
 ghost use Rattle.lid_walk_machine.specs.Machine.{begun};
+ghost use Rattle.lid_texts_packed.specs.Input.{input_of};
 ghost use Rattle.lid_walk.specs.Setups.{IsSetupOf};
 ghost use Rattle.lid_walk.specs.Actors.{AreActors};
 
@@ -11,6 +12,7 @@ use crate::nodes::push_nodes;
 use lid_shell::Actor;
 use lid_stations::Placed;
 use lid_texts::Rows;
+use lid_texts_packed::InputRows;
 use std::alloc::{AllocError, Global};
 
 /// All actors of a run, which have not fired, in the order of their numbers: the source, the shells, the sink, and
@@ -24,6 +26,21 @@ pub fn all_actors<'r>(
     rows: &'r Rows,
 ) -> Result<Vec<Actor<'r>>, AllocError>
     ensures { IfOk result (λ actors. (m : Setup) → IsSetupOf m placed.now.system placed.now.placement rows.now.bits
+        → AreActors m begun actors.items) }
+{
+    actors_over(alloc, placed, InputRows::Held(rows))
+}
+
+/// The same of a run over rows that are held or packed.
+///
+/// # Errors
+/// Memory is wanting.
+pub fn actors_over<'r>(
+    alloc: Global,
+    placed: &Placed<'_>,
+    rows: InputRows<'r>,
+) -> Result<Vec<Actor<'r>>, AllocError>
+    ensures { IfOk result (λ actors. (m : Setup) → IsSetupOf m placed.now.system placed.now.placement (input_of rows.entry)
         → AreActors m begun actors.items) }
 {
     let mut actors = Vec::new(alloc);

@@ -5,6 +5,7 @@ ghost use Rattle.std.specs.List.{All, AllByRecursion};
 ghost use Rattle.lid_stations.specs.Placements.{station_count};
 ghost use Rattle.lid_walk_machine.specs.Setups.{plan};
 ghost use Rattle.lid_shell_laws.specs.Setups.{Setup, IsInputRow};
+ghost use Rattle.lid_texts_packed.specs.Input.{input_of};
 ghost use Rattle.lid_walk.specs.Setups.{IsSetupOf};
 ghost use Rattle.lid_walk.specs.Firsts.{first_tokens};
 ghost use Rattle.lid_walk.specs.Inside.{AreFillsWired, AreWritten, HasFirsts, BeginsWith};
@@ -15,6 +16,7 @@ use lid_shell::actors_go_by_rules;
 use lid_stations::Placed;
 use lid_system::systems_have_one_table;
 use lid_texts::Rows;
+use lid_texts_packed::InputRows;
 use std::alloc::{AllocError, Global};
 
 /// Writes the start tokens of some stations.
@@ -99,15 +101,17 @@ fn tokens_of(
 fn tokens_at_start(
     alloc: Global,
     placed: &Placed<'_>,
-    rows: &Rows,
+    rows: InputRows<'_>,
 ) -> Result<Vec<Option<u32>>, AllocError>
-    requires wide { AllByRecursion (IsInputRow placed.now.system) rows.now.bits }
-    ensures { IfOk result (λ firsts. (m : Setup) → IsSetupOf m placed.now.system placed.now.placement rows.now.bits
+    requires { AllByRecursion (IsInputRow placed.now.system) (input_of rows) }
+    ensures { IfOk result (λ firsts. (m : Setup) → IsSetupOf m placed.now.system placed.now.placement (input_of rows.entry)
         → firsts.items ≡ first_tokens (plan m)) }
 {
-    let Some(row) = rows.bits.as_slice().first() else {
+    let count = rows.len();
+    if count == 0 {
         return no_tokens(alloc, placed.placement.caps.len());
-    };
+    }
+    let row = rows.first(alloc)?;
     tokens_of(alloc, placed, row.as_slice())
 }
 
@@ -125,6 +129,25 @@ pub fn first_tokens(
     requires few { length rows.now.bits ≤ 1000000 }
     requires wide { AllByRecursion (IsInputRow placed.now.system) rows.now.bits }
     ensures are { IfOk result (λ firsts. (m : Setup) → IsSetupOf m placed.now.system placed.now.placement rows.now.bits
+        → firsts.items ≡ first_tokens (plan m)) }
+    ensures many { IfOk result (λ firsts. length firsts.items ≡ length placed.now.placement.caps) }
+    ensures small { IfOk result (λ firsts. All (λ first. IfSome first (λ token. token < 2 ^ 31)) firsts.items) }
+{
+    firsts_over(alloc, placed, InputRows::Held(rows))
+}
+
+/// The same of a run over rows that are held or packed.
+///
+/// # Errors
+/// Memory is wanting.
+pub fn firsts_over(
+    alloc: Global,
+    placed: &Placed<'_>,
+    rows: InputRows<'_>,
+) -> Result<Vec<Option<u32>>, AllocError>
+    requires few { length (input_of rows) ≤ 1000000 }
+    requires wide { AllByRecursion (IsInputRow placed.now.system) (input_of rows) }
+    ensures are { IfOk result (λ firsts. (m : Setup) → IsSetupOf m placed.now.system placed.now.placement (input_of rows.entry)
         → firsts.items ≡ first_tokens (plan m)) }
     ensures many { IfOk result (λ firsts. length firsts.items ≡ length placed.now.placement.caps) }
     ensures small { IfOk result (λ firsts. All (λ first. IfSome first (λ token. token < 2 ^ 31)) firsts.items) }

@@ -9,12 +9,13 @@ ghost use Rattle.lid_walk_machine.specs.Setups.{plan, output_rows};
 ghost use Rattle.lid_shell_laws.specs.Setups.{Setup, IsSetup, IsInputRow};
 ghost use Rattle.lid_walk_machine.specs.Machine.{State, begun, answer_of, next, turn, sweep, IsSettled};
 ghost use Rattle.lid_walk_machine.specs.Laws.{AllRest};
+ghost use Rattle.lid_texts_packed.specs.Input.{input_of};
 ghost use Rattle.lid_shell.specs.Parts.{AreColumnsAtSink};
 ghost use Rattle.lid_walk.specs.Setups.{IsSetupOf};
 ghost use Rattle.lid_walk.specs.Actors.{AreActors};
 ghost use Rattle.lid_walk.specs.Walks.{IsBoard, Walks, IsSetupWalk, HasActor, HasActorAtRest, IsAtRest, firings_between};
 
-use crate::actors::all_actors;
+use crate::actors::actors_over;
 use crate::starting::board_of;
 use lid_base::{Answer, Items};
 use lid_shell::{Actor, TurnEnd};
@@ -22,6 +23,7 @@ use lid_station::PlainBoard;
 use lid_stations::{Placed, Placement};
 use lid_system::{System, systems_have_one_table};
 use lid_texts::Rows;
+use lid_texts_packed::InputRows;
 use std::alloc::{AllocError, Global};
 
 /// All actors of a system over one board. Actors make steps one at a time, in whatever order.
@@ -57,10 +59,29 @@ impl<'r> Walk<'r> {
         requires wide { AllByRecursion (IsInputRow system.now) rows.now.bits }
         ensures { IfOk result (λ w. (m : Setup) → IsSetupOf m system.now placement.now rows.now.bits → Walks m begun w) }
     {
+        Walk::start_over(alloc, system, placement, InputRows::Held(rows))
+    }
+
+    /// Starts a run over input rows that are held or packed, as `start` does.
+    ///
+    /// # Errors
+    /// Memory is wanting.
+    pub fn start_over(
+        alloc: Global,
+        system: &System,
+        placement: &Placement,
+        rows: InputRows<'r>,
+    ) -> Result<Walk<'r>, AllocError>
+        requires system { IsWellFormed system.now }
+        requires fits { Fits system.now placement.now }
+        requires few { length (input_of rows) ≤ 1000000 }
+        requires wide { AllByRecursion (IsInputRow system.now) (input_of rows) }
+        ensures { IfOk result (λ w. (m : Setup) → IsSetupOf m system.now placement.now (input_of rows.entry) → Walks m begun w) }
+    {
         systems_have_one_table();
         let placed = Placed { system, placement };
         let board = board_of(alloc, &placed, rows)?;
-        let actors = all_actors(alloc, &placed, rows)?;
+        let actors = actors_over(alloc, &placed, rows)?;
         Ok(Walk::adopt(board, actors))
     }
 

@@ -3,6 +3,7 @@ use Rattle.std.specs.List.{AllByRecursion}
 use Rattle.lid_stations.specs.Placed.{Placing}
 use Rattle.lid_shell_laws.specs.Setups.{IsInputRow}
 use Rattle.lid_walk_machine.specs.Setups.{plan}
+use Rattle.lid_texts_packed.specs.Input.{input_of}
 use Rattle.lid_walk.specs.Firsts.{first_tokens}
 use Rattle.lid_walk.specs.Setups.{IsSetupOf}
 use Rattle.lid_walk.proofs.Opening.{setup_of}
@@ -13,7 +14,7 @@ pub start-requires-2-clause-course : goal.start-requires-2-clause-course
 start-requires-2-clause-course c =
     let s = c.placed.inside.system.now in
     let p = c.placed.inside.placement.now in
-    let rows = c.args.rows.now.bits in
+    let rows = input_of c.args.rows in
     let is = c.placed.invariant in
     let wide = subst (λ (v : Placing). AllByRecursion (IsInputRow v.system) rows) (sym c.placed.view_is) c.requires.wide in
     let m = setup_of s p rows is.formed is.fits c.requires.few wide (c.runs_go_by_rules.ensures.some s is.formed) in
@@ -24,7 +25,7 @@ pub returns : goal.returns
 returns c = λ m of.
     let s = c.placed.inside.system.now in
     let p = c.placed.inside.placement.now in
-    let rows = c.args.rows.now.bits in
+    let rows = input_of c.args.rows in
     let inside = subst (λ (v : Placing). IsSetupOf m v.system v.placement rows) (sym c.placed.view_is) of in
     let firsts : c.as_slice.result.now ≡ first_tokens (plan m) = c.as_slice.ensures.value ∙ c.in_ok-firsts.ensures.are m of in
     let firsts_too : c.as_slice-2.result.now ≡ first_tokens (plan m) = c.as_slice-2.ensures.value ∙ c.in_ok-firsts.ensures.are m of in

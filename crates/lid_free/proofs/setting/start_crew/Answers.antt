@@ -3,6 +3,7 @@ use Rattle.std.specs.Vec.{with_items}
 use Rattle.std.proofs.lemmas.List.{with_items_is}
 use Rattle.lid_stations.specs.Placed.{Placing, IsPlaced}
 use Rattle.lid_shell_laws.specs.Setups.{Setup}
+use Rattle.lid_texts_packed.specs.Input.{input_of}
 use Rattle.lid_walk.specs.Setups.{IsSetupOf}
 use Rattle.lid_walk.proofs.Opening.{setup_of}
 use Rattle.lid_free_crew.specs.declared.worker.Worker.{Worker}
@@ -12,13 +13,13 @@ use Rattle.lid_free.specs.Workers.{AreOwners, IsCrew}
 use Rattle.lid_free.proofs.Crewing.{all_owned, none_seen, crew_so}
 use Rattle.lid_free.proofs.setting.start_crew.Goals as goal
 
-some : (c : goal.After-as_slice) → (m : Setup) × IsSetupOf m c.args.placed.now.system c.args.placed.now.placement c.args.rows.now.bits
+some : (c : goal.After-as_slice) → (m : Setup) × IsSetupOf m c.args.placed.now.system c.args.placed.now.placement (input_of c.args.rows)
 some c =
     let q = c.requires in
     let s = c.args.placed.now.system in
     let p = c.args.placed.now.placement in
     let placed : IsPlaced s p = subst (λ (v : Placing). IsPlaced v.system v.placement) c.placed.view_is c.placed.invariant in
-    setup_of s p c.args.rows.now.bits placed.formed placed.fits q.few q.wide (c.runs_go_by_rules.ensures.some s placed.formed)
+    setup_of s p (input_of c.args.rows) placed.formed placed.fits q.few q.wide (c.runs_go_by_rules.ensures.some s placed.formed)
 
 are : (c : goal.After-as_slice) → AreBoards (some c).0 c.args.boards.now
 are c = c.requires.boards (some c).0 (some c).1
@@ -58,7 +59,7 @@ returns-clause-crew c = λ m of.
       dealt = c.in_ok-dealt.dealt.items;
       crew =
           subst (λ (l : List Worker). IsCrew m c.args.boards.now.board c.args.workers c.as_slice.result.now c.in_ok-dealt.dealt.items l) (sym after)
-          (crew_so m c.args.placed.now.system c.args.placed.now.placement c.args.rows.now.bits c.args.boards.now.board c.args.workers c.as_slice.result.now c.in_ok-dealt.dealt.items c.in_ok-hired.hired.items c.deal.new.crew
+          (crew_so m c.args.placed.now.system c.args.placed.now.placement (input_of c.args.rows) c.args.boards.now.board c.args.workers c.as_slice.result.now c.in_ok-dealt.dealt.items c.in_ok-hired.hired.items c.deal.new.crew
           of q.some (subst (λ l. AreOwners c.args.placed.now.system c.args.placed.now.placement (2 * length c.args.placed.now.placement.caps) l) (sym c.as_slice.ensures.value) c.in_ok-owners.ensures)
           actors (q.boards m of).board was dealt);
       actors_many = c.len-actors.ensures ∙ c.in_ok-dealt.dealt.ok.0 ∙ actors.many;

@@ -15,19 +15,19 @@ trace_of-requires c =
     let w = c.wrapped.inside in
     let is = c.wrapped.invariant in
     let e = c.design.ensures in
-    let rows = c.args.fed.now.rows.now.bits in
+    let rows = c.args.fed.now.rows.now.rows in
     subst (λ (u : Wrapping). HasFreeLife u rows) c.wrapped.view_is
-    (alive w.checked w.system w.placement is.of is.system is.fits rows c.args.fed.now.few (wide_inside c.wrapped.view_is c.args.fed.now.rows.now.bits c.args.fed.now.wide) (table_of w.checked (judged_of w.checked e.formed e.accepted.models) e.accepted.loops))
+    (alive w.checked w.system w.placement is.of is.system is.fits rows c.args.fed.now.few (wide_inside c.wrapped.view_is c.args.fed.now.rows.now.rows c.args.fed.now.wide) (table_of w.checked (judged_of w.checked e.formed e.accepted.models) e.accepted.loops))
 
 pub dump_of-requires : goal.dump_of-requires
 dump_of-requires c =
     let w = c.wrapped.inside in
     let is = c.wrapped.invariant in
     let e = c.design.ensures in
-    let rows = c.args.fed.now.rows.now.bits in
+    let rows = c.args.fed.now.rows.now.rows in
     let told = subst (λ (u : Wrapping). IsTraceOfAll u rows c.args.cycles c.in_ok-trace.trace) (sym c.wrapped.view_is) c.in_ok-trace.ensures in
     let cells = subst (λ (u : Wrapping). station_count u.placement.relays * c.args.cycles ≤ 1048576) (sym c.wrapped.view_is) c.requires.cells in
-    trace_writable w.checked w.system w.placement is.of is.system is.fits rows c.args.fed.now.few (wide_inside c.wrapped.view_is c.args.fed.now.rows.now.bits c.args.fed.now.wide) (table_of w.checked (judged_of w.checked e.formed e.accepted.models) e.accepted.loops)
+    trace_writable w.checked w.system w.placement is.of is.system is.fits rows c.args.fed.now.few (wide_inside c.wrapped.view_is c.args.fed.now.rows.now.rows c.args.fed.now.wide) (table_of w.checked (judged_of w.checked e.formed e.accepted.models) e.accepted.loops)
     c.args.cycles c.in_ok-trace.trace told c.requires.most cells
 
 pub returns : goal.returns
@@ -35,10 +35,10 @@ returns c =
     let w = c.wrapped.inside in
     let is = c.wrapped.invariant in
     let e = c.design.ensures in
-    let rows = c.args.fed.now.rows.now.bits in
+    let rows = c.args.fed.now.rows.now.rows in
     let told = subst (λ (u : Wrapping). IsTraceOfAll u rows c.args.cycles c.in_ok-trace.trace) (sym c.wrapped.view_is) c.in_ok-trace.ensures in
     subst (λ (u : Wrapping). IfOk c.dump_of.result (λ text. IsWaveText u.design (links_of u.system) u.placement rows c.args.cycles text.items)) c.wrapped.view_is
     (if_ok c.dump_of.result
-    (λ text. dumped w.checked w.system w.placement is.of is.system is.fits rows c.args.fed.now.few (wide_inside c.wrapped.view_is c.args.fed.now.rows.now.bits c.args.fed.now.wide) (table_of w.checked (judged_of w.checked e.formed e.accepted.models) e.accepted.loops)
+    (λ text. dumped w.checked w.system w.placement is.of is.system is.fits rows c.args.fed.now.few (wide_inside c.wrapped.view_is c.args.fed.now.rows.now.rows c.args.fed.now.wide) (table_of w.checked (judged_of w.checked e.formed e.accepted.models) e.accepted.loops)
     c.args.cycles c.in_ok-trace.trace told text.items)
     c.dump_of.ensures)

@@ -8,7 +8,7 @@ pub returns-in-Ok : goal.returns-in-Ok
 unfolding freeing_script
 returns-in-Ok g c = record {
   ok = λ held. record {
-    output = freed c.args.fed.now.wrapped.now.design (links_of c.args.fed.now.wrapped.now.system) c.args.fed.now.wrapped.now.placement c.args.fed.now.rows.now.bits c.args.workers c.args.rounds c.args.tally;
+    output = freed c.args.fed.now.wrapped.now.design (links_of c.args.fed.now.wrapped.now.system) c.args.fed.now.wrapped.now.placement c.args.fed.now.rows.now.rows c.args.workers c.args.rounds c.args.tally;
     ends = refl;
     text_of = c.in-Ok.ensures;
   };

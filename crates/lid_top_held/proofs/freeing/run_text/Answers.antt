@@ -27,13 +27,13 @@ returns g c =
     let d = w.checked in
     let s = w.system in
     let p = w.placement in
-    let rows = c.args.fed.now.rows.now.bits in
+    let rows = c.args.fed.now.rows.now.rows in
     let e = c.design.ensures in
     let has : HasTable (drivers d) = table_of d (judged_of d e.formed e.accepted.models) e.accepted.loops in
     let table = has rows in
     let m : Setup = setup d s p q.of q.system rows table.0 table.1 in
     let end = c.in_ok-end.end in
-    let free = c.in_ok-end.ensures m (is_setup_of d s p q.of q.system rows table.0 table.1 q.fits c.args.fed.now.few (wide_inside c.wrapped.view_is c.args.fed.now.rows.now.bits c.args.fed.now.wide)) in
+    let free = c.in_ok-end.ensures m (is_setup_of d s p q.of q.system rows table.0 table.1 q.fits c.args.fed.now.few (wide_inside c.wrapped.view_is c.args.fed.now.rows.now.rows c.args.fed.now.wide)) in
     let named = (q.of.sink (sink (plan m)) end.rows.columns free.columns.0 free.columns.1).0 in
     let told : List ℕ = if c.args.tally then tallies_text end.tallies end.finish end.finish_fired else [] in
     subst (λ (u : Wrapping). IfOk c.end_text.result (λ text. IsFreeText u.design (links_of u.system) u.placement rows c.args.workers c.args.rounds c.args.tally text.items)) c.wrapped.view_is

@@ -9,7 +9,7 @@ use Rattle.lid_top_held.proofs.Scripted.{freeing_fetches_nothing, waving_fetches
 use Rattle.lid_top_held.proofs.held.fed_text.Goals as goal
 
 abbrev left : HeldRun → Fed → Script
-left run f = fed_script run f.wrapped.now f.rows.now.bits
+left run f = fed_script run f.wrapped.now f.rows.now.rows
 
 pub returns-in-Free : goal.returns-in-Free
 returns-in-Free g c =

@@ -8,8 +8,8 @@ use Rattle.lid_top_held.proofs.held.wrapped_text.Goals as goal
 pub returns-in-Ok : goal.returns-in-Ok
 returns-in-Ok g c =
     let held = g.S.Shelf.held c.args.shelf.now in
-    let got = subst (λ (w : Wrapping). Got held c.args.asked.now.vec.now rows_limit (vec_reading w.design) c.in-Ok.rows.bits) c.wrapped.view_is c.in-Ok.ensures.ok in
-    by_within (made_read _ c.in-Ok.rows.bits got c.in-Ok.ensures.fetched c.in-Ok.ensures.kept) c.fed_text.ensures
+    let got = subst (λ (w : Wrapping). Got held c.args.asked.now.vec.now rows_limit (vec_reading w.design) c.in-Ok.rows.rows) c.wrapped.view_is c.in-Ok.ensures.ok in
+    by_within (made_read _ c.in-Ok.rows.rows got c.in-Ok.ensures.fetched c.in-Ok.ensures.kept) c.fed_text.ensures
 
 pub returns-in-Err : goal.returns-in-Err
 returns-in-Err g c =

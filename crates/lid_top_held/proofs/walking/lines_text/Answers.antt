@@ -23,7 +23,7 @@ walk_on-requires c =
     let w = c.wrapped.inside in
     let is = c.wrapped.invariant in
     let e = c.design.ensures in
-    let run = some_setup w.checked w.system w.placement c.args.fed.now.rows.now.bits (table_of w.checked (judged_of w.checked e.formed e.accepted.models) e.accepted.loops) is.of is.system is.fits c.args.fed.now.few (wide_inside c.wrapped.view_is c.args.fed.now.rows.now.bits c.args.fed.now.wide) in
+    let run = some_setup w.checked w.system w.placement c.args.fed.now.rows.now.rows (table_of w.checked (judged_of w.checked e.formed e.accepted.models) e.accepted.loops) is.of is.system is.fits c.args.fed.now.few (wide_inside c.wrapped.view_is c.args.fed.now.rows.now.rows c.args.fed.now.wide) in
     (run.0, begun, c.in_ok-walk.ensures run.0 run.1, below_inside c.wrapped.view_is c.args.schedule.now c.requires)
 
 pub into_rows-requires : goal.into_rows-requires
@@ -31,7 +31,7 @@ into_rows-requires c =
     let w = c.wrapped.inside in
     let is = c.wrapped.invariant in
     let e = c.design.ensures in
-    let run = some_setup w.checked w.system w.placement c.args.fed.now.rows.now.bits (table_of w.checked (judged_of w.checked e.formed e.accepted.models) e.accepted.loops) is.of is.system is.fits c.args.fed.now.few (wide_inside c.wrapped.view_is c.args.fed.now.rows.now.bits c.args.fed.now.wide) in
+    let run = some_setup w.checked w.system w.placement c.args.fed.now.rows.now.rows (table_of w.checked (judged_of w.checked e.formed e.accepted.models) e.accepted.loops) is.of is.system is.fits c.args.fed.now.few (wide_inside c.wrapped.view_is c.args.fed.now.rows.now.rows c.args.fed.now.wide) in
     (run.0, after_all (plan run.0) begun c.args.schedule.now, c.in_ok-walk_on.ensures.walks run.0 begun (c.in_ok-walk.ensures run.0 run.1))
 
 pub returns : goal.returns
@@ -41,9 +41,9 @@ returns c =
     let d = w.checked in
     let s = w.system in
     let p = w.placement in
-    let rows = c.args.fed.now.rows.now.bits in
+    let rows = c.args.fed.now.rows.now.rows in
     let few_rows = c.args.fed.now.few in
-    let wide = wide_inside c.wrapped.view_is c.args.fed.now.rows.now.bits c.args.fed.now.wide in
+    let wide = wide_inside c.wrapped.view_is c.args.fed.now.rows.now.rows c.args.fed.now.wide in
     let e = c.design.ensures in
     let has : HasTable (drivers d) = table_of d (judged_of d e.formed e.accepted.models) e.accepted.loops in
     let table = has rows in

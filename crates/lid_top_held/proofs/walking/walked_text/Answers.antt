@@ -10,7 +10,7 @@ use Rattle.lid_top_held.specs.declared.run.Fed.{Fed}
 use Rattle.lid_top_held.proofs.walking.walked_text.Goals as goal
 
 abbrev next : Fed → List ℕ → Script
-next f list = end (gives (walked f.wrapped.now.design (links_of f.wrapped.now.system) f.wrapped.now.placement f.rows.now.bits list))
+next f list = end (gives (walked f.wrapped.now.design (links_of f.wrapped.now.system) f.wrapped.now.placement f.rows.now.rows list))
 
 abbrev read_by : Fed → List ℕ → Reading (List ℕ)
 read_by f = schedule_read (actor_count (links_of f.wrapped.now.system) f.wrapped.now.placement)
@@ -22,7 +22,7 @@ returns-in-Ok-lines_text g c =
     let held = g.S.Shelf.held c.args.shelf.now in
     let got = subst (λ (n : ℕ). Got held c.args.schedule.now text_limit (schedule_read n) c.in-Ok.list) c.actors_of-actors.ensures c.in-Ok.ensures.ok in
     by_given (made_read {read = read_by f} (next f) c.in-Ok.list got c.in-Ok.ensures.fetched c.in-Ok.ensures.kept)
-    (subst (λ list. IsTextOf (walked f.wrapped.now.design (links_of f.wrapped.now.system) f.wrapped.now.placement f.rows.now.bits list) c.in-Ok-lines_text.text.items) c.as_slice.ensures c.in-Ok-lines_text.ensures)
+    (subst (λ list. IsTextOf (walked f.wrapped.now.design (links_of f.wrapped.now.system) f.wrapped.now.placement f.rows.now.rows list) c.in-Ok-lines_text.text.items) c.as_slice.ensures c.in-Ok-lines_text.ensures)
     tt
 
 pub returns-in-Ok : goal.returns-in-Ok

@@ -2,6 +2,7 @@
 use Rattle.std.proofs.Common.{◌≡◌, ◌<◌, ◌+◌, ℕ, List, get_or, refl, ◌∙◌, ap, subst, arith}
 use Rattle.lid_stations.specs.Placed.{Placing, IsPlaced, links_in}
 use Rattle.lid_stations.specs.Stations.{mover}
+use Rattle.lid_texts_packed.specs.Input.{input_of}
 use Rattle.lid_walk.specs.Inside.{AreFirstActors}
 use Rattle.lid_walk.proofs.Pushed.{one_more}
 use Rattle.lid_walk.proofs.Moved.{mover_at, is_mover}
@@ -12,7 +13,7 @@ loop-place-preserved c =
     let placed : IsPlaced c.args.placed.now.system c.args.placed.now.placement = subst (λ (v : Placing). IsPlaced v.system v.placement) c.placed.view_is c.placed.invariant in
     let s = c.args.placed.now.system in
     let p = c.args.placed.now.placement in
-    let rows = c.args.rows.now.bits in
+    let rows = input_of c.args.rows in
     let place = c.loop-place.place in
     let many : get_or c.as_slice.result.now c.args.c 0 ≡ get_or p.relays c.args.c 0 = ap (λ (xs : List ℕ). get_or xs c.args.c 0) (c.as_slice.ensures ∙ ap (λ (v : Placing). v.placement.relays) c.placed.view_is) in
     let less : place < get_or p.relays c.args.c 0 = omega (arith, c.loop-place-test.true) in

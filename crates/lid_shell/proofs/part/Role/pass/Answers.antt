@@ -1,17 +1,40 @@
 -- What each part makes.
-use Rattle.std.proofs.Common.{◌≡◌, ◌+◌, Bool, List, length, get_or, set, refl, sym, ◌∙◌, ap, subst, arith}
-use Rattle.std.specs.Prelude.{Some, slice_get}
-use Rattle.std.proofs.lemmas.Option.{slice_get_read}
+use Rattle.std.proofs.Common.{◌≡◌, ◌+◌, ◌<◌, Bool, List, [], length, get_or, set, refl, sym, ◌∙◌, ap, subst, arith}
+use Rattle.std.proofs.lemmas.Option.{slice_get-get_or}
+use Rattle.lid_system.specs.Tables.{IsTable}
+use Rattle.lid_texts_packed.specs.Input.{input_of}
 use Rattle.lid_shell.specs.declared.part.Role.{Role}
 use Rattle.lid_shell.specs.Inside.{IsPassing, HasPassed}
-use Rattle.lid_shell.proofs.Passed.{row_there, source_many, source_makes, shell_taken, shell_many, mover_one, mover_passed, mover_sets, rows_within, shell_passed, sink_can, done_many, sink_passed}
+use Rattle.lid_shell.proofs.Passed.{row_there, row_wide, source_many, source_makes, shell_taken, shell_many, mover_one, mover_passed, mover_sets, rows_within, shell_passed, sink_can, done_many, sink_passed}
 use Rattle.lid_shell.proofs.part.Role.pass.Goals as goal
+
+pub put-requires-clause-there : goal.put-requires-clause-there
+put-requires-clause-there c =
+    let q = c.requires in
+    let p = subst (λ (x : Role). IsPassing q.setup q.number c.args.fired c.args.taken.now (length c.args.into.now) x) c.in-Source.is q.passing in
+    row_there q.setup q.number c.args.fired c.args.taken.now (length c.args.into.now) c.in-Source.node (input_of c.in-Source.input.rows) p.rules p.below p.is.0 p.is.1 p.is.2.rows_are
+
+pub put-requires-clause-wide : goal.put-requires-clause-wide
+put-requires-clause-wide c =
+    let q = c.requires in
+    let p = subst (λ (x : Role). IsPassing q.setup q.number c.args.fired c.args.taken.now (length c.args.into.now) x) c.in-Source.is q.passing in
+    let bits = input_of c.in-Source.input.rows in
+    let there : c.args.fired + 1 < length bits =
+    row_there q.setup q.number c.args.fired c.args.taken.now (length c.args.into.now) c.in-Source.node bits p.rules p.below p.is.0 p.is.1 p.is.2.rows_are in
+    row_wide q.setup q.number c.args.fired c.args.taken.now (length c.args.into.now) c.in-Source.node bits p.rules p.below p.is.0 p.is.1 p.is.2.rows_are
+    (get_or bits (c.args.fired + 1) []) (slice_get-get_or bits (c.args.fired + 1) [] there)
+
+pub put-requires-clause-room : goal.put-requires-clause-room
+put-requires-clause-room c =
+    let q = c.requires in
+    let p = subst (λ (x : Role). IsPassing q.setup q.number c.args.fired c.args.taken.now (length c.args.into.now) x) c.in-Source.is q.passing in
+    p.is.2.room
 
 pub put-requires-clause-many : goal.put-requires-clause-many
 put-requires-clause-many c =
     let q = c.requires in
     let p = subst (λ (x : Role). IsPassing q.setup q.number c.args.fired c.args.taken.now (length c.args.into.now) x) c.in-Source.is q.passing in
-    source_many q.setup q.number c.args.fired c.args.taken.now (length c.args.into.now) c.in-Source.node c.in-Source.rows.now.bits p.rules p.below p.is.0 p.is.1 p.is.2 c.actors_go_by_rules.ensures p.puts
+    source_many q.setup q.number c.args.fired c.args.taken.now (length c.args.into.now) c.in-Source.node (input_of c.in-Source.input.rows) p.rules p.below p.is.0 p.is.1 p.is.2.rows_are c.actors_go_by_rules.ensures p.puts
 
 pub fire-requires-clause-taken : goal.fire-requires-clause-taken
 fire-requires-clause-taken c =
@@ -51,18 +74,12 @@ receive-requires c =
 pub returns-in-Source-clause-passes : goal.returns-in-Source-clause-passes
 returns-in-Source-clause-passes c = λ m v passing.
     let p = subst (λ (x : Role). IsPassing m v c.args.fired c.args.taken.now (length c.args.into.now) x) c.in-Source.is passing in
-    let bits = c.in-Source.rows.now.bits in
-    let there = row_there m v c.args.fired c.args.taken.now (length c.args.into.now) c.in-Source.node bits p.rules p.below p.is.0 p.is.1 p.is.2 in
-    let same : c.as_slice.result.now ≡ m.input = c.as_slice.ensures ∙ p.is.2 in
-    let at : slice_get m.input (c.args.fired + 1) ≡ Some c.as_slice-in-Source.result.now =
-    subst (λ (xs : List (List Bool)). slice_get xs (c.args.fired + 1) ≡ Some c.as_slice-in-Source.result.now) same
-    (slice_get_read c.as_slice.result.now (length bits) (c.args.fired + 1) c.index-as_slice-fired.result (ap length (sym c.as_slice.ensures)) there c.index-as_slice-fired.is
-    ∙ ap (λ (x : List Bool). Some x) (sym c.as_slice-in-Source.ensures)) in
+    let bits = input_of c.in-Source.input.rows in
     record {
       makes =
-          source_makes m v c.args.fired c.args.taken.now (length c.args.into.now) c.in-Source.node bits p.rules p.below p.is.0 p.is.1 p.is.2 c.actors_go_by_rules.ensures c.put.new.into
-          (c.put.ensures.tokens m.system m.input m.table (c.args.fired + 1) p.rules.system p.is.1 p.rules.table at);
-      is = (p.is.0, p.is.1, p.is.2);
+          source_makes m v c.args.fired c.args.taken.now (length c.args.into.now) c.in-Source.node bits p.rules p.below p.is.0 p.is.1 p.is.2.rows_are c.actors_go_by_rules.ensures c.put.new.into
+          (c.put.ensures.tokens m.system m.table p.rules.system p.is.1 (subst (λ (rows : List (List Bool)). IsTable m.system rows m.table) (sym p.is.2.rows_are) p.rules.table));
+      is = (p.is.0, p.is.1, record { rows_are = ap input_of c.put.ensures.rows ∙ p.is.2.rows_are; room = c.put.ensures.room ∙ p.is.2.room });
     }
 
 pub returns-in-Shell-clause-passes : goal.returns-in-Shell-clause-passes

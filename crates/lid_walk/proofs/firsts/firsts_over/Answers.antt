@@ -8,10 +8,11 @@ use Rattle.lid_system.specs.Tables.{system_drivers}
 use Rattle.lid_stations.specs.Placed.{Placing, IsPlaced}
 use Rattle.lid_walk_machine.specs.Setups.{plan}
 use Rattle.lid_shell_laws.specs.Setups.{Setup, IsInputRow}
+use Rattle.lid_texts_packed.specs.Input.{input_of}
 use Rattle.lid_walk.specs.Setups.{IsSetupOf}
 use Rattle.lid_walk.specs.Firsts.{first_tokens}
 use Rattle.lid_walk.proofs.Opening.{known_firsts}
-use Rattle.lid_walk.proofs.firsts.first_tokens.Goals as goal
+use Rattle.lid_walk.proofs.firsts.firsts_over.Goals as goal
 
 -- what is known of the tokens that are answered
 known : {E : Type 0} → (q : Placing) (rows : List (List Bool)) → IsPlaced q.system q.placement → length rows ≤ 1000000 → AllByRecursion (IsInputRow q.system) rows → HasTable (system_drivers q.system)
@@ -24,11 +25,11 @@ returns-clause-many c =
     let q = c.args.placed.now in
     let placed : IsPlaced q.system q.placement = subst (λ (v : Placing). IsPlaced v.system v.placement) c.placed.view_is c.placed.invariant in
     if_ok c.tokens_at_start.result (λ firsts are. are.0)
-    (known q c.args.rows.now.bits placed c.requires.few c.requires.wide (c.systems_have_one_table.ensures.some q.system placed.formed) c.tokens_at_start.result c.tokens_at_start.ensures)
+    (known q (input_of c.args.rows) placed c.requires.few c.requires.wide (c.systems_have_one_table.ensures.some q.system placed.formed) c.tokens_at_start.result c.tokens_at_start.ensures)
 
 pub returns-clause-small : goal.returns-clause-small
 returns-clause-small c =
     let q = c.args.placed.now in
     let placed : IsPlaced q.system q.placement = subst (λ (v : Placing). IsPlaced v.system v.placement) c.placed.view_is c.placed.invariant in
     if_ok c.tokens_at_start.result (λ firsts are. are.1)
-    (known q c.args.rows.now.bits placed c.requires.few c.requires.wide (c.systems_have_one_table.ensures.some q.system placed.formed) c.tokens_at_start.result c.tokens_at_start.ensures)
+    (known q (input_of c.args.rows) placed c.requires.few c.requires.wide (c.systems_have_one_table.ensures.some q.system placed.formed) c.tokens_at_start.result c.tokens_at_start.ensures)

@@ -1,4 +1,4 @@
-use Rattle.lid_free.proofs.run.free_run.Goals as goal
+use Rattle.lid_free.proofs.run.free_run_over.Goals as goal
 
 pub run_out-requires-clause-some : goal.run_out-requires-clause-some
 run_out-requires-clause-some g c κs within =

@@ -1,12 +1,13 @@
 -- The board and the actors are those of a setup in which no actor has begun.
 use Rattle.lid_walk_machine.specs.Machine.{begun}
+use Rattle.lid_texts_packed.specs.Input.{input_of}
 use Rattle.lid_walk.proofs.Opening.{setup_of}
-use Rattle.lid_walk.proofs.walk.Walk.start.Goals as goal
+use Rattle.lid_walk.proofs.walk.Walk.start_over.Goals as goal
 
 pub adopt-requires : goal.adopt-requires
 adopt-requires c =
     let q = c.requires in
-    let own = setup_of c.args.system.now c.args.placement.now c.args.rows.now.bits q.system q.fits q.few q.wide (c.systems_have_one_table.ensures.some c.args.system.now q.system) in (
+    let own = setup_of c.args.system.now c.args.placement.now (input_of c.args.rows) q.system q.fits q.few q.wide (c.systems_have_one_table.ensures.some c.args.system.now q.system) in (
       own.0,
       begun,
       own.1.rules,
