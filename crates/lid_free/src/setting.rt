@@ -35,7 +35,11 @@ pub(crate) struct Boards {
 }
 
 /// The boards of a run at its start.
-fn start_boards(alloc: Global, placed: &Placed<'_>, rows: InputRows<'_>) -> Result<Boards, AllocError>
+fn start_boards(
+    alloc: Global,
+    placed: &Placed<'_>,
+    rows: InputRows<'_>,
+) -> Result<Boards, AllocError>
     requires few { length (input_of rows) ≤ 1000000 }
     requires wide { AllByRecursion (IsInputRow placed.now.system) (input_of rows) }
     ensures { IfOk result (λ boards. (m : Setup) → IsSetupOf m placed.now.system placed.now.placement (input_of rows.entry) → AreBoards m boards) }

@@ -34,6 +34,6 @@ returns g c =
     let are = subst (AreStems network c.args.order.now) (sym c.as_slice-stems.ensures.value) (c.in_ok-found.ensures c.args.design.now c.requires.ordered) in
     if_ok c.run_stems.result
     (λ out runs b strict.
-        runs b (strict_fits network c.args.order.now c.requires.ordered stems are c.in_ok-layout.layout c.in_ok-layout.ensures c.requires.taken rows b strict)
-        ∙ stem_rows network c.args.order.now c.requires.ordered stems are rows b strict c.args.outs.now (numbers_within c.args.design.now c.args.drivers.now c.args.outs.now c.requires.outs))
+    runs b (strict_fits network c.args.order.now c.requires.ordered stems are c.in_ok-layout.layout c.in_ok-layout.ensures c.requires.taken rows b strict)
+    ∙ stem_rows network c.args.order.now c.requires.ordered stems are rows b strict c.args.outs.now (numbers_within c.args.design.now c.args.drivers.now c.args.outs.now c.requires.outs))
     c.run_stems.ensures

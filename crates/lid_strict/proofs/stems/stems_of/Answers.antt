@@ -16,8 +16,8 @@ bounds-drivers-number c =
 pub index_mut-requires : goal.index_mut-requires
 index_mut-requires c =
     let below : get_or c.args.order.now c.loop-number.number-index 0 < length c.args.drivers.now =
-        all_among (λ (k : ℕ). k < length c.args.drivers.now) c.args.order.now (get_or c.args.order.now c.loop-number.number-index 0) c.requires
-        (among_at c.args.order.now c.loop-number.number-index 0 c.loop-number-test.true) in
+    all_among (λ (k : ℕ). k < length c.args.drivers.now) c.args.order.now (get_or c.args.order.now c.loop-number.number-index 0) c.requires
+    (among_at c.args.order.now c.loop-number.number-index 0 c.loop-number-test.true) in
     let long = c.loop-number.invariant.0 in
     omega arith
 
@@ -39,8 +39,8 @@ loop-number-preserved c =
           let network = map (shown_driver d) drivers in
           stems_next network order ordered i h stems v room
           (c.find_stem-stem.ensures d
-              ∙ ap (λ (ns : List ℕ). stem_by ns k (shown_driver d driver)) c.as_slice.ensures.value
-              ∙ ap (stem_by stems k) (driver_same d drivers order ordered i h driver c.index-drivers-number.is))
+          ∙ ap (λ (ns : List ℕ). stem_by ns k (shown_driver d driver)) c.as_slice.ensures.value
+          ∙ ap (stem_by stems k) (driver_same d drivers order ordered i h driver c.index-drivers-number.is))
           (c.loop-number.invariant.1 d ordered),
     )
 
