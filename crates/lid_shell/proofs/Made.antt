@@ -25,7 +25,7 @@ use Rattle.lid_shell.proofs.Agreed.{agrees_closed}
 
 -- the part of an actor that fills a station does not tell how often it has fired
 pub part_free : (r : ActorsGoByRules) (m : Setup) (v fired other t j station : ℕ) (part : Role) → IsSetup m → slice_get (outs_of (plan m) v) j ≡ Some station → IsRole m v fired t part → IsRole m v other t part
-part_free r m v fired other t j station (Source node rows) setup at is = is
+part_free r m v fired other t j station (Source input) setup at is = is
 part_free r m v fired other t j station (Shell node) setup at is = is
 part_free r m v fired other t j station Mover setup at is = is
 part_free r m v fired other t j station (Sink node rows) setup at is = absurd (sink_fills_none r m v j station setup is.0.last at)

@@ -4,7 +4,7 @@ use Rattle.std.specs.Prelude.{◌≡◌, ℕ, ◌+◌, ◌<◌, ◌≤◌, List,
 use Rattle.std.specs.List.{All}
 use Rattle.lid_system.specs.declared.Node.TheVariants as node
 use Rattle.lid_system.specs.declared.InBit.{InBit}
-use Rattle.lid_shell_nodes.specs.Wiring.{SourceView, SinkView, IsSourceOf, IsShellOf, IsSinkOf}
+use Rattle.lid_shell_nodes.specs.Wiring.{SinkView, IsSourceOf, IsShellOf, IsSinkOf}
 use Rattle.lid_walk_machine.specs.Setups.{output_rows}
 use Rattle.lid_shell_laws.specs.Setups.{Setup}
 use Rattle.lid_texts_packed.specs.Input.{input_of}
@@ -18,9 +18,9 @@ abbrev pub AreColumnsAtSink : Setup → ℕ → List (List ℕ) → Type 0
 AreColumnsAtSink m v columns = (ins : List InBit) × (slice_get m.system.nodes v ≡ Some (node.Sink columns ins))
 
 -- the input rows of a setup, and room for one of them
-pub record HasInput (m : Setup) (node : SourceView) (input : Input) : Type 0 where
+pub record HasInput (m : Setup) (input : Input) : Type 0 where
   pub rows_are : input_of input.rows ≡ m.input
-  pub room : length input.row.items ≡ node.width
+  pub room : length input.row.items ≡ input.node.width
 
 -- the rows of a sink that has fired so often: as many strict output rows, and room for one of each firing to come
 pub record HasGivenRows (m : Setup) (v fired : ℕ) (node : SinkView) (rows : Given) : Type 0 where
@@ -32,7 +32,7 @@ pub record HasGivenRows (m : Setup) (v fired : ℕ) (node : SinkView) (rows : Gi
 
 -- the part of actor v that has fired so often, and whose pearl, where it is a shell, is in the state of row t
 abbrev pub IsRole : Setup → ℕ → ℕ → ℕ → Role → Type 0
-IsRole m v fired t (Source node input) = (v ≡ 0) × IsSourceOf m.system node × HasInput m node input
+IsRole m v fired t (Source input) = (v ≡ 0) × IsSourceOf m.system input.node × HasInput m input
 IsRole m v fired t (Shell node) = (0 < v) × (v + 1 < length m.system.nodes) × IsShellOf m.system m.table v t node
 IsRole m v fired t Mover = length m.system.nodes ≤ v
 IsRole m v fired t (Sink node rows) = IsSinkOf m.system v node × HasGivenRows m v fired node rows

@@ -71,7 +71,7 @@ impl<'r> Actor<'r> {
         outs: &[u32],
     ) -> Result<Actor<'r>, AllocError>
         requires system { IsWellFormed system.now }
-        ensures { IfOk result (λ a. (m : Setup) → IsSetup m → m.system ≡ system.now → m.input ≡ input_of rows → outs_of (plan m) 0 ≡ outs.now
+        ensures { IfOk result (λ a. (m : Setup) → IsSetup m → m.system ≡ system.now → m.input ≡ input_of rows.entry → outs_of (plan m) 0 ≡ outs.now
             → IsActor m 0 (record { fired = 0; position = 0 }) a) }
     {
         actors_go_by_rules();
@@ -81,7 +81,7 @@ impl<'r> Actor<'r> {
         let desk = new_desk(alloc, &[], outs, cap)?;
         Ok(Actor {
             desk,
-            part: Role::Source(node, Input { rows, row }),
+            part: Role::Source(Input { node, rows, row }),
         })
     }
 
@@ -253,7 +253,7 @@ impl<'r> Actor<'r> {
     {
         match &self.part {
             Role::Sink(_, given) => Some(given.done.as_slice()),
-            Role::Source(_, _) | Role::Shell(_) | Role::Mover => None,
+            Role::Source(_) | Role::Shell(_) | Role::Mover => None,
         }
     }
 
@@ -267,7 +267,7 @@ impl<'r> Actor<'r> {
         let Actor { part, .. } = self;
         match part {
             Role::Sink(_, given) => Some(given.into_rows()),
-            Role::Source(_, _) | Role::Shell(_) | Role::Mover => None,
+            Role::Source(_) | Role::Shell(_) | Role::Mover => None,
         }
     }
 }

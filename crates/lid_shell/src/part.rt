@@ -7,9 +7,10 @@ use lid_shell_nodes::{ShellNode, SinkNode, SourceNode};
 use lid_texts::Rows;
 use lid_texts_packed::InputRows;
 
-/// The input rows, and room for one of them.
+/// The source with all input rows, and room for one of them.
 #[derive(Drop)]
 pub(crate) struct Input<'r> {
+    pub(crate) node: SourceNode,
     pub(crate) rows: InputRows<'r>,
     /// The row that was put last.
     pub(crate) row: Vec<bool>,
@@ -29,7 +30,7 @@ pub(crate) struct Given {
 #[derive(Drop)]
 pub(crate) enum Role<'r> {
     /// The source, with all input rows.
-    Source(SourceNode, Input<'r>),
+    Source(Input<'r>),
     /// A shell.
     Shell(ShellNode),
     /// A mover, which moves a token from one station to the next.

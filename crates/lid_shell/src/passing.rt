@@ -15,23 +15,24 @@ ghost use Rattle.lid_shell.specs.Inside.{CanPass, IsPassing, HasPassed, CanRecei
 use crate::part::{Given, Input, Role};
 use crate::rules::actors_go_by_rules;
 use lid_base::Items;
-use lid_shell_nodes::{SinkNode, SourceNode};
+use lid_shell_nodes::SinkNode;
 
 impl Input<'_> {
     /// Writes the tokens of a row, one for each channel that comes from the source.
-    fn put(&mut self, node: &SourceNode, row: usize, into: &mut [u32])
+    fn put(&mut self, row: usize, into: &mut [u32])
         requires there { row < length (input_of self.old.rows) }
-        requires wide { length (slice_index_or (input_of self.old.rows) row []) ≡ node.now.width }
-        requires room { length self.old.row.items ≡ node.now.width }
-        requires many { length into.old ≡ length node.now.ports }
+        requires wide { length (slice_index_or (input_of self.old.rows) row []) ≡ self.old.node.width }
+        requires room { length self.old.row.items ≡ self.old.node.width }
+        requires many { length into.old ≡ length self.old.node.ports }
         ensures many { length into.new ≡ length into.old }
-        ensures tokens { (s : System) (b : Table Point) → IsWellFormed s → IsSourceOf s node.now → IsTable s (input_of self.old.rows) b
+        ensures tokens { (s : System) (b : Table Point) → IsWellFormed s → IsSourceOf s self.old.node → IsTable s (input_of self.old.rows) b
             → into.new ≡ tokens_from s b 0 row }
+        ensures node { self.new.node ≡ self.old.node }
         ensures rows { self.new.rows ≡ self.old.rows }
         ensures room { length self.new.row.items ≡ length self.old.row.items }
     {
         self.rows.read(row, self.row.as_mut_slice());
-        node.put(self.row.as_slice(), into);
+        self.node.put(self.row.as_slice(), into);
     }
 }
 
@@ -57,7 +58,7 @@ impl Role<'_> {
     {
         actors_go_by_rules();
         match self {
-            Role::Source(node, input) => input.put(node, fired as usize + 1, into),
+            Role::Source(input) => input.put(fired as usize + 1, into),
             Role::Shell(node) => node.fire(taken, into),
             Role::Mover => into[0] = taken[0],
             Role::Sink(node, given) => given.receive(node, taken),

@@ -1,7 +1,8 @@
 -- What each part makes.
-use Rattle.std.proofs.Common.{◌≡◌, ◌+◌, ◌<◌, Bool, List, [], length, get_or, set, refl, sym, ◌∙◌, ap, subst, arith}
+use Rattle.std.proofs.Common.{◌+◌, ◌<◌, Bool, List, [], length, get_or, set, refl, sym, ◌∙◌, ap, subst, arith}
 use Rattle.std.proofs.lemmas.Option.{slice_get-get_or}
 use Rattle.lid_system.specs.Tables.{IsTable}
+use Rattle.lid_shell_nodes.specs.Wiring.{SourceView, IsSourceOf}
 use Rattle.lid_texts_packed.specs.Input.{input_of}
 use Rattle.lid_shell.specs.declared.part.Role.{Role}
 use Rattle.lid_shell.specs.Inside.{IsPassing, HasPassed}
@@ -12,7 +13,7 @@ pub put-requires-clause-there : goal.put-requires-clause-there
 put-requires-clause-there c =
     let q = c.requires in
     let p = subst (λ (x : Role). IsPassing q.setup q.number c.args.fired c.args.taken.now (length c.args.into.now) x) c.in-Source.is q.passing in
-    row_there q.setup q.number c.args.fired c.args.taken.now (length c.args.into.now) c.in-Source.node (input_of c.in-Source.input.rows) p.rules p.below p.is.0 p.is.1 p.is.2.rows_are
+    row_there q.setup q.number c.args.fired c.args.taken.now (length c.args.into.now) c.in-Source.input.node (input_of c.in-Source.input.rows) p.rules p.below p.is.0 p.is.1 p.is.2.rows_are
 
 pub put-requires-clause-wide : goal.put-requires-clause-wide
 put-requires-clause-wide c =
@@ -20,8 +21,8 @@ put-requires-clause-wide c =
     let p = subst (λ (x : Role). IsPassing q.setup q.number c.args.fired c.args.taken.now (length c.args.into.now) x) c.in-Source.is q.passing in
     let bits = input_of c.in-Source.input.rows in
     let there : c.args.fired + 1 < length bits =
-    row_there q.setup q.number c.args.fired c.args.taken.now (length c.args.into.now) c.in-Source.node bits p.rules p.below p.is.0 p.is.1 p.is.2.rows_are in
-    row_wide q.setup q.number c.args.fired c.args.taken.now (length c.args.into.now) c.in-Source.node bits p.rules p.below p.is.0 p.is.1 p.is.2.rows_are
+    row_there q.setup q.number c.args.fired c.args.taken.now (length c.args.into.now) c.in-Source.input.node bits p.rules p.below p.is.0 p.is.1 p.is.2.rows_are in
+    row_wide q.setup q.number c.args.fired c.args.taken.now (length c.args.into.now) c.in-Source.input.node bits p.rules p.below p.is.0 p.is.1 p.is.2.rows_are
     (get_or bits (c.args.fired + 1) []) (slice_get-get_or bits (c.args.fired + 1) [] there)
 
 pub put-requires-clause-room : goal.put-requires-clause-room
@@ -34,7 +35,7 @@ pub put-requires-clause-many : goal.put-requires-clause-many
 put-requires-clause-many c =
     let q = c.requires in
     let p = subst (λ (x : Role). IsPassing q.setup q.number c.args.fired c.args.taken.now (length c.args.into.now) x) c.in-Source.is q.passing in
-    source_many q.setup q.number c.args.fired c.args.taken.now (length c.args.into.now) c.in-Source.node (input_of c.in-Source.input.rows) p.rules p.below p.is.0 p.is.1 p.is.2.rows_are c.actors_go_by_rules.ensures p.puts
+    source_many q.setup q.number c.args.fired c.args.taken.now (length c.args.into.now) c.in-Source.input.node (input_of c.in-Source.input.rows) p.rules p.below p.is.0 p.is.1 p.is.2.rows_are c.actors_go_by_rules.ensures p.puts
 
 pub fire-requires-clause-taken : goal.fire-requires-clause-taken
 fire-requires-clause-taken c =
@@ -77,9 +78,9 @@ returns-in-Source-clause-passes c = λ m v passing.
     let bits = input_of c.in-Source.input.rows in
     record {
       makes =
-          source_makes m v c.args.fired c.args.taken.now (length c.args.into.now) c.in-Source.node bits p.rules p.below p.is.0 p.is.1 p.is.2.rows_are c.actors_go_by_rules.ensures c.put.new.into
+          source_makes m v c.args.fired c.args.taken.now (length c.args.into.now) c.in-Source.input.node bits p.rules p.below p.is.0 p.is.1 p.is.2.rows_are c.actors_go_by_rules.ensures c.put.new.into
           (c.put.ensures.tokens m.system m.table p.rules.system p.is.1 (subst (λ (rows : List (List Bool)). IsTable m.system rows m.table) (sym p.is.2.rows_are) p.rules.table));
-      is = (p.is.0, p.is.1, record { rows_are = ap input_of c.put.ensures.rows ∙ p.is.2.rows_are; room = c.put.ensures.room ∙ p.is.2.room });
+      is = (p.is.0, subst (λ (n : SourceView). IsSourceOf m.system n) (sym c.put.ensures.node) p.is.1, record { rows_are = ap input_of c.put.ensures.rows ∙ p.is.2.rows_are; room = c.put.ensures.room ∙ p.is.2.room ∙ ap (λ (n : SourceView). n.width) (sym c.put.ensures.node) });
     }
 
 pub returns-in-Shell-clause-passes : goal.returns-in-Shell-clause-passes
