@@ -28,8 +28,11 @@ tokens_of-requires c =
     let some = c.if-count-eq0.false in
     let count = c.len-count.ensures in
     let there : 0 < length bits = omega (arith, some, count) in
-    subst (IsInputRow c.args.placed.now.system) (sym (c.as_slice.ensures.value ∙ c.in_ok-row.ensures))
-    (all_at (IsInputRow c.args.placed.now.system) bits 0 (get_or bits 0 []) c.requires (slice_get-get_or bits 0 [] there))
+    record {
+      row =
+          subst (IsInputRow c.args.placed.now.system) (sym (c.as_slice.ensures.value ∙ c.in_ok-row.ensures))
+          (all_at (IsInputRow c.args.placed.now.system) bits 0 (get_or bits 0 []) c.requires (slice_get-get_or bits 0 [] there));
+    }
 
 pub returns : goal.returns
 returns c =

@@ -1,5 +1,6 @@
 -- One mover more.
 use Rattle.std.proofs.Common.{◌≡◌, ◌<◌, ◌+◌, ℕ, List, get_or, refl, ◌∙◌, ap, subst, arith}
+use Rattle.std.proofs.lemmas.List.Sums.{sum_by_more}
 use Rattle.lid_stations.specs.Placed.{Placing, IsPlaced, links_in}
 use Rattle.lid_stations.specs.Stations.{mover}
 use Rattle.lid_texts_packed.specs.Input.{input_of}
@@ -23,3 +24,14 @@ loop-place-preserved c =
     subst (λ (n : ℕ). AreFirstActors c.args.placed.now rows n c.push.new.self.items) next
     (one_more c.args.placed.now rows (mover (links_in c.args.placed.now) p c.args.c place) c.loop-place.actors.items c.push.new.self.items c.mover.result c.loop-place.invariant c.in_ok-push.ensures.items
     (is_mover c.args.placed.now rows (mover (links_in c.args.placed.now) p c.args.c place) (c.args.first + place) (c.args.first + place + 1) c.len-count.result c.mover.result one refl c.len-count.ensures c.mover.ensures))
+
+pub returns : goal.returns
+returns c =
+    let p = c.args.placed.now.placement in
+    let place = c.loop-place.place in
+    let end = c.loop-place.auto.place-end in
+    let many : get_or c.as_slice.result.now c.args.c 0 ≡ get_or p.relays c.args.c 0 = ap (λ (xs : List ℕ). get_or xs c.args.c 0) (c.as_slice.ensures ∙ ap (λ (v : Placing). v.placement.relays) c.placed.view_is) in
+    let all : place ≡ get_or p.relays c.args.c 0 = omega (arith, c.loop-place-test.false) in
+    let sum = sum_by_more (λ (k : ℕ). k) p.relays c.args.c 0 c.requires.there in
+    let next : mover (links_in c.args.placed.now) p c.args.c place ≡ mover (links_in c.args.placed.now) p (c.args.c + 1) 0 = omega arith in
+    subst (λ (n : ℕ). AreFirstActors c.args.placed.now (input_of c.args.rows) n c.loop-place.actors.items) next c.loop-place.invariant

@@ -5,4 +5,4 @@ use Rattle.lid_walk.specs.Inside.{AreFirstActors}
 use Rattle.lid_walk.proofs.movers.push_movers_on.Given as goal
 
 abbrev pub invariant-loop-place : goal.invariant-loop-place
-invariant-loop-place l = AreFirstActors l.placed (input_of l.rows) (mover (links_in l.placed) l.placed.placement l.c l.place) l.actors.items
+invariant-loop-place l = AreFirstActors l.placed (input_of l.fn.rows) (mover (links_in l.placed) l.placed.placement l.c l.place) l.actors.items
