@@ -4,7 +4,7 @@ use Rattle.std.specs.List.{enumerate_from}
 use Rattle.lid_base.specs.Cuts.{lines_left}
 use Rattle.lid_base.specs.Lines.{logical_lines, first_fault, text_fault}
 use Rattle.lid_blif.specs.Joins.{all_lines}
-use Rattle.lid_blif.proofs.cutting.lines.Given as goal
+use Rattle.lid_blif.proofs.cutting.word_list.Given as goal
 
 -- one more than the bytes that are left, and 0 at the end
 abbrev pub work_left : Option (List ℕ) → ℕ
