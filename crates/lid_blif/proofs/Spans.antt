@@ -1,8 +1,9 @@
 -- Spans that cut words into lines, with one more word or one more span.
-use Rattle.std.proofs.Common.{◌≡◌, ℕ, ◌+◌, ◌-◌, ◌<◌, ◌≤◌, List, [], ◌∷◌, ◌++◌, length, take, drop, refl, sym, ap, ◌∙◌, arith, length-drop, nat_lt, true, lt-ltb, append-nil}
-use Rattle.std.proofs.lemmas.List.{take-append-le, drop-append-le, drop-drop, drop_all, take_all}
+use Rattle.std.proofs.Common.{◌≡◌, ℕ, ◌+◌, ◌-◌, ◌<◌, ◌≤◌, List, [], ◌∷◌, ◌++◌, length, take, drop, refl, sym, ap, ◌∙◌, arith, length-drop, nat_lt, true, false, lt-ltb, append_assoc}
+use Rattle.std.proofs.lemmas.List.{take-append-le, drop-append-le, drop-drop, take_all}
 use Rattle.lid_base.specs.declared.line.Line.{Line}
-use Rattle.lid_base.specs.Joins.{closed_lines}
+use Rattle.lid_base.specs.Lines.{goes_on, words_of}
+use Rattle.lid_base.specs.Joins.{closed_lines, open_lines}
 use Rattle.lid_blif.specs.declared.cutting.Span.{Span}
 use Rattle.lid_blif.specs.Joins.{lines_cut, words_counted}
 
@@ -30,8 +31,19 @@ closed_some spans words number start count from whole some =
     let has : nat_lt 0 (length (drop start words)) ≡ true = lt-ltb 0 (length (drop start words)) (omega arith) in
     rw (lines_cut_span spans (record { number = number; count = count }) words, from, all, has) refl
 
--- a line without words is none
-pub closed_none : (spans : List Span) (words : List (List ℕ)) (number start : ℕ) → start ≡ length words → lines_cut spans words ≡ lines_cut spans words ++ closed_lines number (drop start words)
-closed_none spans words number start whole =
-    let none : drop start words ≡ [] = drop_all start words (omega arith) in
-    rw (none, append-nil) refl
+-- the lines with the words of one more physical line
+module _ (spans : List Span) (words : List (List ℕ)) (number start : ℕ) (p : ℕ × List ℕ) (ps : List (ℕ × List ℕ)) where
+  abbrev pub grown : List (List ℕ)
+  grown = words ++ words_of p.1
+
+  done_same : words_counted spans ≡ start → start ≤ length words → lines_cut spans grown ≡ lines_cut spans words
+  done_same from within = lines_cut_words spans words (words_of p.1) (omega arith)
+
+  open_more : start ≤ length words → drop start grown ≡ drop start words ++ words_of p.1
+  open_more within = drop-append-le start words (words_of p.1) within
+
+  pub lines_go_on : words_counted spans ≡ start → start ≤ length words → goes_on p.1 ≡ true → lines_cut spans grown ++ open_lines number (drop start grown) ps ≡ lines_cut spans words ++ open_lines number (drop start words) (p ∷ ps)
+  lines_go_on from within goes = rw (done_same from within, open_more within, goes) refl
+
+  pub lines_end : words_counted spans ≡ start → start ≤ length words → goes_on p.1 ≡ false → (lines_cut spans grown ++ closed_lines number (drop start grown)) ++ open_lines (p.0 + 1) [] ps ≡ lines_cut spans words ++ open_lines number (drop start words) (p ∷ ps)
+  lines_end from within ends = rw (done_same from within, open_more within, ends) (append_assoc (lines_cut spans words) (closed_lines number (drop start words ++ words_of p.1)) (open_lines (p.0 + 1) [] ps))

@@ -88,7 +88,7 @@ impl<'t> Joined<'t> {
 
     /// Ends the last line.
     fn finish(mut self) -> Result<WordList<'t>, AllocError>
-        requires { IsJoined self.entry }
+        requires { IsJoined self }
         ensures { IfOk result (λ list. lines_cut list.spans.items list.words.items ≡ all_lines self.entry []) }
     {
         self.close(0)?;

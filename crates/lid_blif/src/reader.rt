@@ -52,7 +52,7 @@ fn lines_from<'w, 't>(
     words: &'w [Word<'t>],
     spans: Vec<Span>,
 ) -> Result<Items<TextLine<'w, 't>>, BlifFault>
-    ensures ok { IfOk result (λ lines. lines ≡ lines_cut spans.entry.items words.now) }
+    ensures ok { IfOk result (λ lines. lines ≡ lines_cut spans.items words.now) }
     ensures err { IfErr result (λ e. e ≡ BlifFault.Memory) }
 {
     match lines_cut(alloc, words, spans.as_slice()) {
