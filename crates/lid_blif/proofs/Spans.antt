@@ -1,7 +1,6 @@
 -- Spans that cut words into lines, with one more word or one more span.
-use Rattle.std.proofs.Common.{◌≡◌, ℕ, ◌+◌, ◌-◌, ◌<◌, ◌≤◌, List, [], ◌∷◌, ◌++◌, length, take, drop, refl, sym, ap, ◌∙◌, arith, length-drop, nat_lt, true, false, lt-ltb, append_assoc}
+use Rattle.std.proofs.Common.{◌≡◌, ℕ, ◌+◌, ◌<◌, ◌≤◌, List, [], ◌∷◌, ◌++◌, length, take, drop, refl, arith, length-drop, nat_lt, true, false, lt-ltb, append_assoc}
 use Rattle.std.proofs.lemmas.List.{take-append-le, drop-append-le, drop-drop, take_all}
-use Rattle.lid_base.specs.declared.line.Line.{Line}
 use Rattle.lid_base.specs.Lines.{goes_on, words_of}
 use Rattle.lid_base.specs.Joins.{closed_lines, open_lines}
 use Rattle.lid_blif.specs.declared.cutting.Span.{Span}

@@ -1,7 +1,7 @@
-use Rattle.std.proofs.Common.{◌≡◌, ◌+◌, ℕ, [], ◌++◌, List, true, false, drop, sym, ◌∙◌, ap}
+use Rattle.std.proofs.Common.{◌≡◌, ℕ, ◌++◌, List, true, false, drop, sym, ◌∙◌, ap}
 use Rattle.lid_base.specs.Lines.{goes_on}
-use Rattle.lid_base.specs.Joins.{closed_lines, open_lines}
-use Rattle.lid_blif.specs.Joins.{lines_cut, done_lines, open_words}
+use Rattle.lid_base.specs.Joins.{open_lines}
+use Rattle.lid_blif.specs.Joins.{lines_cut}
 use Rattle.lid_blif.proofs.Spans.{lines_go_on, lines_end}
 use Rattle.lid_blif.proofs.cutting.Joined.add.Goals as goal
 
