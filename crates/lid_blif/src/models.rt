@@ -25,6 +25,7 @@ fn names_of(
             push_copies(alloc, words_after(line.words(), 1), &mut names)?;
         }
     }
+    names.shrink_to_fit();
     Ok(Items::from_vec(names))
 }
 
@@ -36,6 +37,7 @@ fn cells_of(alloc: Global, body: &[TextLine<'_, '_>]) -> Result<Items<Cell>, All
     for (at, line) in body.iter().enumerate() {
         push_cell(alloc, line, &body[at + 1..], &mut cells)?;
     }
+    cells.shrink_to_fit();
     Ok(Items::from_vec(cells))
 }
 
@@ -49,6 +51,7 @@ fn insts_of(alloc: Global, body: &[TextLine<'_, '_>]) -> Result<Items<Inst>, All
             insts.push(inst)?;
         }
     }
+    insts.shrink_to_fit();
     Ok(Items::from_vec(insts))
 }
 

@@ -15,8 +15,8 @@ returns-clause-joined c =
     let joined = c.args.self.now in
     record {
       start =
-        ap words_counted c.in_ok-push.ensures.items
-        ∙ words_counted_span joined.spans.items _
-        ∙ ap (λ n. n + (c.len.result - joined.start)) c.requires.start;
+          ap words_counted c.in_ok-push.ensures.items
+          ∙ words_counted_span joined.spans.items _
+          ∙ ap (λ n. n + (c.len.result - joined.start)) c.requires.start;
       within = omega (arith, c.requires.within, c.len.ensures);
     }
