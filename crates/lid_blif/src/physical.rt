@@ -34,7 +34,8 @@ fn is_allowed(b: u8) -> bool
     32 <= b && b <= 126 || b == b'\t' || b == b'\r'
 }
 
-/// Whether a byte is not allowed outside comments. It looks at all of them, many at once.
+/// Whether a byte is not allowed outside comments. The loop has no early exit, so that many bytes
+/// are compared at once.
 fn has_stray_byte(bytes: &[u8]) -> bool
     ensures { result ≡ has_stray_byte bytes.now }
 {
@@ -68,7 +69,7 @@ fn trimmed(bytes: &[u8]) -> &[u8]
 
 /// The parts of a physical line.
 #[derive(Clone, Copy)]
-struct Parts<'t> {
+struct LineParts<'t> {
     /// The line without its comment.
     content: &'t [u8],
     /// What has its words: the content without a `\` that ends it.
@@ -78,7 +79,7 @@ struct Parts<'t> {
 }
 
 #[tactic(auto, unfolding(lid_base::specs::Lines::words_of, lid_base::specs::Lines::goes_on))]
-fn parts_of(line: &[u8]) -> Parts<'_>
+fn line_parts(line: &[u8]) -> LineParts<'_>
     ensures content { result.content.now ≡ content_of line.now }
     ensures words { words_in result.words.now ≡ words_of line.now }
     ensures goes_on { result.goes_on ≡ goes_on line.now }
@@ -91,7 +92,7 @@ fn parts_of(line: &[u8]) -> Parts<'_>
     } else {
         kept
     };
-    Parts {
+    LineParts {
         content,
         words,
         goes_on,
@@ -146,7 +147,7 @@ pub fn take_words<'t>(
     ensures ok { OnOk result (line_fault longest (number, line.now) ≡ None) }
     ensures err { IfErr result (λ e. (e ≡ TextFault.Memory) ⊎ (line_fault longest (number, line.now) ≡ Some e)) }
 {
-    let parts = parts_of(line);
+    let parts = line_parts(line);
     let Ok(seen) = push_words(parts.words, longest, words) else {
         return Err(TextFault::Memory);
     };
