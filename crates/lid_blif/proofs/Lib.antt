@@ -4,3 +4,4 @@ pub mod Naming
 pub mod Faults
 pub mod Cubes
 pub mod Texts
+pub mod Spans

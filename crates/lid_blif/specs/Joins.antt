@@ -1,9 +1,45 @@
--- The logical lines of a text while it is cut. They serve its loop.
-use Rattle.std.specs.Prelude.{ℕ, List, ◌++◌}
+-- The words of a text while it is cut into lines.
+use Rattle.std.specs.Prelude.{◌≡◌, ℕ, ◌+◌, ◌≤◌, nat_lt, Bool, not, List, [], ◌∷◌, ◌++◌, length, take, drop}
+use Rattle.std.specs.List.{list_any}
+use Rattle.lid_base.specs.Lines.{is_allowed, ends_in_mark}
 use Rattle.lid_base.specs.declared.line.Line.{Line}
 use Rattle.lid_base.specs.Joins.{open_lines}
+use Rattle.lid_blif.specs.declared.cutting.Span.{Span}
 use Rattle.lid_blif.specs.declared.cutting.Joined.{Joined}
 
--- those that are done, and those that come of the physical lines
+-- a byte that is not allowed outside comments
+abbrev pub has_stray_byte : List ℕ → Bool
+has_stray_byte bytes = list_any (λ b. not (is_allowed b)) bytes
+
+-- a word that ends in a backslash
+abbrev pub has_marked_word : List (List ℕ) → Bool
+has_marked_word words = list_any ends_in_mark words
+
+abbrev pub has_longer_word : ℕ → List (List ℕ) → Bool
+has_longer_word longest words = list_any (λ w. nat_lt longest (length w)) words
+
+-- the lines that spans cut from words: each takes as many words as it counts
+abbrev pub lines_cut : List Span → List (List ℕ) → List Line
+lines_cut [] words = []
+lines_cut (span ∷ spans) words = record { number = span.number; words = take span.count words } ∷ lines_cut spans (drop span.count words)
+
+-- how many words the spans count
+abbrev pub words_counted : List Span → ℕ
+words_counted [] = 0
+words_counted (span ∷ spans) = span.count + words_counted spans
+
+-- the lines that are done, and the words of the open line
+abbrev pub done_lines : Joined → List Line
+done_lines joined = lines_cut joined.spans.items joined.words.items
+
+abbrev pub open_words : Joined → List (List ℕ)
+open_words joined = drop joined.start joined.words.items
+
+-- the open line begins behind the words of those that are done
+pub record IsJoined (joined : Joined) : Type 0 where
+  pub start : words_counted joined.spans.items ≡ joined.start
+  pub within : joined.start ≤ length joined.words.items
+
+-- the lines that are done, and those that come of the physical lines
 abbrev pub all_lines : Joined → List (ℕ × List ℕ) → List Line
-all_lines joined ps = joined.done.items ++ open_lines joined.number joined.words.items ps
+all_lines joined ps = done_lines joined ++ open_lines joined.number (open_words joined) ps

@@ -33,7 +33,7 @@ fn cube_from(characters: &[u8]) -> Cube
     Cube { care, value }
 }
 
-fn cube_of(inputs: usize, row: &TextLine<'_>) -> Cube
+fn cube_of(inputs: usize, row: &TextLine<'_, '_>) -> Cube
     requires { inputs ≤ 64 }
     ensures { result ≡ cube_of inputs row.now }
 {
@@ -45,7 +45,11 @@ fn cube_of(inputs: usize, row: &TextLine<'_>) -> Cube
     }
 }
 
-fn cubes_of(alloc: Global, inputs: usize, rows: &[TextLine<'_>]) -> Result<Items<Cube>, AllocError>
+fn cubes_of(
+    alloc: Global,
+    inputs: usize,
+    rows: &[TextLine<'_, '_>],
+) -> Result<Items<Cube>, AllocError>
     requires { inputs ≤ 64 }
     ensures { IfOk result (λ cubes. cubes ≡ map (cube_of inputs) rows.now) }
 {
@@ -56,7 +60,7 @@ fn cubes_of(alloc: Global, inputs: usize, rows: &[TextLine<'_>]) -> Result<Items
     Ok(Items::from_vec(cubes))
 }
 
-fn has_zero(rows: &[TextLine<'_>]) -> bool
+fn has_zero(rows: &[TextLine<'_, '_>]) -> bool
     ensures { result ≡ list_any ends_in_zero rows.now }
 {
     for row in rows {
@@ -67,7 +71,11 @@ fn has_zero(rows: &[TextLine<'_>]) -> bool
     false
 }
 
-fn cover_of(alloc: Global, words: &[Word<'_>], rows: &[TextLine<'_>]) -> Result<Cover, AllocError>
+fn cover_of(
+    alloc: Global,
+    words: &[Word<'_>],
+    rows: &[TextLine<'_, '_>],
+) -> Result<Cover, AllocError>
     requires { inputs_of words.now ≤ 64 }
     ensures { IfOk result (λ cover. cover ≡ cover_of words.now rows.now) }
 {
@@ -90,7 +98,11 @@ fn inputs_of<'w, 't>(words: &'w [Word<'t>]) -> &'w [Word<'t>]
     }
 }
 
-fn names_cell(alloc: Global, words: &[Word<'_>], rows: &[TextLine<'_>]) -> Result<Cell, AllocError>
+fn names_cell(
+    alloc: Global,
+    words: &[Word<'_>],
+    rows: &[TextLine<'_, '_>],
+) -> Result<Cell, AllocError>
     requires { inputs_of words.now ≤ 64 }
     ensures { IfOk result (λ cell. cell ≡ names_cell words.now rows.now) }
 {
@@ -157,8 +169,8 @@ fn latch_cell(alloc: Global, words: &[Word<'_>]) -> Result<Cell, AllocError>
 /// Appends the cell of a line, if it has one. `later` has the lines after it.
 pub fn push_cell(
     alloc: Global,
-    line: &TextLine<'_>,
-    later: &[TextLine<'_>],
+    line: &TextLine<'_, '_>,
+    later: &[TextLine<'_, '_>],
     cells: &mut Vec<Cell>,
 ) -> Result<(), AllocError>
     requires { IsNarrow line.now }
@@ -200,7 +212,7 @@ fn binds_of(alloc: Global, words: &[Word<'_>]) -> Result<Items<Bind>, AllocError
 }
 
 /// The instance of a `.subckt` line.
-pub fn inst_of(alloc: Global, line: &TextLine<'_>) -> Result<Inst, AllocError>
+pub fn inst_of(alloc: Global, line: &TextLine<'_, '_>) -> Result<Inst, AllocError>
     ensures { IfOk result (λ inst. inst ≡ inst_of line.now) }
 {
     let words = line.words();

@@ -43,7 +43,7 @@ impl Context {
     }
 
     /// The context of the line after this one.
-    pub fn after(self, line: &TextLine<'_>) -> Context
+    pub fn after(self, line: &TextLine<'_, '_>) -> Context
         requires rows { self.rows + 1 < 2 ^ 64 }
         requires models { self.models + 1 < 2 ^ 64 }
         ensures { (before : List Line) → self ≡ context_of before → result ≡ context_of (line.now ∷ before) }

@@ -1,106 +1,111 @@
 //! A text cut into logical lines whose words lie in it.
 
-ghost use Rattle.std.specs.Prelude.{◌≡◌, ℕ, ◌<◌, ◌≤◌, ◌⊎◌, List, [], ◌∷◌, ◌++◌, length, IfOk, OnOk, IfErr};
-ghost use Rattle.lid_base.specs.Lines.{logical_lines, line_fault, text_fault, words_of};
+ghost use Rattle.std.specs.Prelude.{◌≡◌, ℕ, ◌<◌, ◌≤◌, ◌⊎◌, List, [], ◌∷◌, ◌++◌, length, IfOk, OnOk, IfErr, Some, None};
+ghost use Rattle.lid_base.specs.Lines.{logical_lines, line_fault, text_fault};
 ghost use Rattle.lid_base.specs.Joins.{closed_lines, open_lines};
-ghost use Rattle.lid_blif.specs.Joins.{all_lines};
+ghost use Rattle.lid_blif.specs.Joins.{lines_cut, done_lines, open_words, all_lines, IsJoined};
 
-use crate::line::{TextLine, Word};
-use lid_base::{
-    Items, TextFault, cut_line, goes_on, has_bad_byte, has_long_word, next_word, words_part,
-};
+use crate::line::{TextLine, Word, words_after, words_before};
+use crate::physical::take_words;
+use lid_base::{Items, TextFault, cut_line};
 use std::alloc::{AllocError, Global};
-use std::mem;
 
-/// The logical lines that are done, and the one that is open: its number and its words so far.
+/// How many words a logical line has, and the number of its first physical line.
+#[derive(Clone, Copy)]
+pub struct Span {
+    pub number: u32,
+    pub count: usize,
+}
+
+/// The words of all logical lines, and the spans that cut them into lines.
+#[derive(Drop)]
+pub struct WordList<'t> {
+    pub words: Vec<Word<'t>>,
+    pub spans: Vec<Span>,
+}
+
+/// The words so far, and the spans of the lines that are done. A line is open: its number, and how
+/// many words stand before its own.
 #[derive(Drop)]
 struct Joined<'t> {
-    done: Vec<TextLine<'t>>,
-    number: u32,
     words: Vec<Word<'t>>,
+    spans: Vec<Span>,
+    number: u32,
+    start: usize,
 }
 
 impl<'t> Joined<'t> {
     /// No line is done, and the first is open.
     fn new(alloc: Global) -> Joined<'t>
-        ensures { (ps : List (ℕ × List ℕ)) → all_lines result ps ≡ open_lines 1 [] ps }
+        ensures lines { (ps : List (ℕ × List ℕ)) → all_lines result ps ≡ open_lines 1 [] ps }
+        ensures joined { IsJoined result }
     {
         Joined {
-            done: Vec::new(alloc),
-            number: 1,
             words: Vec::new(alloc),
+            spans: Vec::new(alloc),
+            number: 1,
+            start: 0,
         }
     }
 
     /// Ends the open line, and opens the next one.
-    fn close(&mut self, alloc: Global, next: u32) -> Result<(), AllocError>
-        ensures done { OnOk result (self.new.done.items ≡ self.old.done.items ++ closed_lines self.old.number self.old.words.items) }
+    fn close(&mut self, next: u32) -> Result<(), AllocError>
+        requires { IsJoined self.now }
+        ensures done { OnOk result (done_lines self.new ≡ done_lines self.old ++ closed_lines self.old.number (open_words self.old)) }
         ensures number { OnOk result (self.new.number ≡ next) }
-        ensures words { OnOk result (self.new.words.items ≡ []) }
+        ensures words { OnOk result (open_words self.new ≡ []) }
+        ensures joined { OnOk result (IsJoined self.new) }
     {
-        let words = mem::replace(&mut self.words, Vec::new(alloc));
-        if !words.is_empty() {
-            self.done.push(TextLine::new(self.number, words))?;
-        }
+        let number = self.number;
         self.number = next;
+        let count = self.words.len() - self.start;
+        if count == 0 {
+            return Ok(());
+        }
+        self.spans.push(Span { number, count })?;
+        self.start += count;
         Ok(())
     }
 
     /// Takes the next physical line.
-    fn add(&mut self, alloc: Global, number: u32, line: &'t [u8]) -> Result<(), AllocError>
-        requires { number < 4294967295 }
-        ensures { OnOk result ((ps : List (ℕ × List ℕ)) → all_lines self.new ps ≡ all_lines self.old ((number, line.now) ∷ ps)) }
+    fn add(&mut self, number: u32, line: &'t [u8], longest: u32) -> Result<(), TextFault>
+        requires number { number < 4294967295 }
+        requires joined { IsJoined self.now }
+        ensures lines { OnOk result ((ps : List (ℕ × List ℕ)) → all_lines self.new ps ≡ all_lines self.old ((number, line.now) ∷ ps)) }
+        ensures joined { OnOk result (IsJoined self.new) }
+        ensures ok { OnOk result (line_fault longest (number, line.now) ≡ None) }
+        ensures err { IfErr result (λ e. (e ≡ TextFault.Memory) ⊎ (line_fault longest (number, line.now) ≡ Some e)) }
     {
-        push_words(line, &mut self.words)?;
-        if !goes_on(line) {
-            self.close(alloc, number + 1)?;
+        match take_words(number, line, longest, &mut self.words) {
+            Err(fault) => Err(fault),
+            Ok(true) => Ok(()),
+            Ok(false) => match self.close(number + 1) {
+                Ok(()) => Ok(()),
+                Err(_) => Err(TextFault::Memory),
+            },
         }
-        Ok(())
     }
 
     /// Ends the last line.
-    fn finish(mut self, alloc: Global) -> Result<Items<TextLine<'t>>, AllocError>
-        ensures { IfOk result (λ v. v ≡ all_lines self.entry []) }
+    fn finish(mut self) -> Result<WordList<'t>, AllocError>
+        requires { IsJoined self }
+        ensures { IfOk result (λ list. lines_cut list.spans.items list.words.items ≡ all_lines self.entry []) }
     {
-        self.close(alloc, 0)?;
-        let Joined { done, .. } = self;
-        Ok(Items::from_vec(done))
+        self.close(0)?;
+        let Joined { words, spans, .. } = self;
+        Ok(WordList { words, spans })
     }
 }
 
-/// Appends the words of a physical line.
-fn push_words<'t>(line: &'t [u8], words: &mut Vec<Word<'t>>) -> Result<(), AllocError>
-    ensures { OnOk result (words.new.items ≡ words.old.items ++ words_of line.now) }
-{
-    let mut rest = words_part(line);
-    while let Some((word, after)) = next_word(rest) {
-        words.push(Word::new(word))?;
-        rest = after;
-    }
-    Ok(())
-}
-
-/// What is at fault in a physical line.
-fn fault_of(number: u32, line: &[u8], longest: u32) -> Option<TextFault>
-    ensures { result ≡ line_fault longest (number, line.now) }
-{
-    if has_bad_byte(line) {
-        Some(TextFault::BadByte { line: number })
-    } else if has_long_word(line, longest) {
-        Some(TextFault::NameTooLong { line: number })
-    } else {
-        None
-    }
-}
-
-/// The logical lines of a text whose words have at most `longest` bytes. Their words lie in the text.
+/// The words of the logical lines of a text, which have at most `longest` bytes. They lie in the
+/// text.
 ///
 /// # Errors
 /// `BadByte` and `NameTooLong` tell the first physical line that has such a fault, `BadByte` where
 /// a line has both. `Memory` may come at any text.
-pub fn lines(alloc: Global, bytes: &[u8], longest: u32) -> Result<Items<TextLine<'_>>, TextFault>
+pub fn word_list(alloc: Global, bytes: &[u8], longest: u32) -> Result<WordList<'_>, TextFault>
     requires { length bytes.now ≤ 67108864 }
-    ensures ok { IfOk result (λ v. (text_fault longest bytes.now ≡ None) × (v ≡ logical_lines bytes.now)) }
+    ensures ok { IfOk result (λ list. (text_fault longest bytes.now ≡ None) × (lines_cut list.spans.items list.words.items ≡ logical_lines bytes.now)) }
     ensures err { IfErr result (λ e. (e ≡ TextFault.Memory) ⊎ (text_fault longest bytes.now ≡ Some e)) }
 {
     let mut joined = Joined::new(alloc);
@@ -108,17 +113,31 @@ pub fn lines(alloc: Global, bytes: &[u8], longest: u32) -> Result<Items<TextLine
     let mut left = Some(bytes);
     while let Some(text) = left {
         let (line, after) = cut_line(text);
-        if let Some(fault) = fault_of(number, line, longest) {
+        if let Err(fault) = joined.add(number, line, longest) {
             return Err(fault);
         }
-        let Ok(()) = joined.add(alloc, number, line) else {
-            return Err(TextFault::Memory);
-        };
         number += 1;
         left = after;
     }
-    match joined.finish(alloc) {
-        Ok(lines) => Ok(lines),
+    match joined.finish() {
+        Ok(list) => Ok(list),
         Err(_) => Err(TextFault::Memory),
     }
+}
+
+/// The lines that spans cut from words.
+pub fn lines_cut<'w, 't>(
+    alloc: Global,
+    words: &'w [Word<'t>],
+    spans: &[Span],
+) -> Result<Items<TextLine<'w, 't>>, AllocError>
+    ensures { IfOk result (λ lines. lines ≡ lines_cut spans.now words.now) }
+{
+    let mut lines = Vec::with_capacity(alloc, spans.len())?;
+    let mut rest = words;
+    for span in spans {
+        lines.push(TextLine::new(span.number, words_before(rest, span.count)))?;
+        rest = words_after(rest, span.count);
+    }
+    Ok(Items::from_vec(lines))
 }

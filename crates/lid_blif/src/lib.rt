@@ -9,6 +9,7 @@ mod fault;
 mod keyword;
 mod line;
 mod models;
+mod physical;
 mod reader;
 mod scan;
 mod shapes;

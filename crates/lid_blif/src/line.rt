@@ -1,6 +1,6 @@
 //! Logical lines whose words lie in the text.
 
-ghost use Rattle.std.specs.Prelude.{◌≡◌, ◌++◌, drop, IfOk, OnOk};
+ghost use Rattle.std.specs.Prelude.{◌≡◌, ◌++◌, take, drop, IfOk, OnOk};
 ghost use Rattle.lid_base.specs.declared.line.Line.{Line};
 ghost use Rattle.lid_base.specs.Words.{word_at, last_word};
 ghost use Rattle.lid_blif.specs.Words.{keyword_of};
@@ -41,37 +41,36 @@ impl<'t> Word<'t> {
     }
 }
 
-/// A logical line, whose words lie in the text. A contract sees the line.
+/// A logical line: a span of words that lie in the text. A contract sees the line.
 #[derive(Drop)]
-pub struct TextLine<'t> {
+pub struct TextLine<'w, 't> {
     number: u32,
     /// What its first word says.
     keyword: Keyword,
-    words: Items<Word<'t>>,
+    words: &'w [Word<'t>],
 }
 
-impl<'t> Model for TextLine<'t> {
+impl<'w, 't> Model for TextLine<'w, 't> {
     ghost use Rattle.std.specs.Prelude.{◌≡◌};
     ghost use Rattle.lid_base.specs.declared.line.Line.{Line};
     ghost use Rattle.lid_blif.specs.Words.{keyword_of};
 
     ghost Value = { Line };
 
-    ghost view = { λ s. record { number = s.number; words = s.words } };
+    ghost view = { λ s. record { number = s.number; words = s.words.now } };
 
-    ghost invariant = { λ s. s.keyword ≡ keyword_of s.words };
+    ghost invariant = { λ s. s.keyword ≡ keyword_of s.words.now };
 }
 
-impl<'t> TextLine<'t> {
+impl<'w, 't> TextLine<'w, 't> {
     /// A line of this number, which is that of its first physical line, and of these words.
-    pub fn new(number: u32, words: Vec<Word<'t>>) -> TextLine<'t>
-        ensures { let line : Line = record { number = number; words = words.entry.items } in result ≡ line }
+    pub fn new(number: u32, words: &'w [Word<'t>]) -> TextLine<'w, 't>
+        ensures { let line : Line = record { number = number; words = words.now } in result ≡ line }
     {
-        let keyword = named(word_at(words.as_slice(), 0));
         TextLine {
             number,
-            keyword,
-            words: Items::from_vec(words),
+            keyword: named(word_at(words, 0)),
+            words,
         }
     }
 
@@ -90,10 +89,10 @@ impl<'t> TextLine<'t> {
     }
 
     /// Its words.
-    pub fn words(&self) -> &[Word<'t>]
+    pub fn words(&self) -> &'w [Word<'t>]
         ensures { result.now ≡ self.now.words }
     {
-        self.words.as_slice()
+        self.words
     }
 }
 
@@ -113,6 +112,17 @@ pub fn last_word<'w>(words: &'w [Word<'_>]) -> &'w [u8]
     ensures { result.now ≡ last_word words.now }
 {
     word_at(words, words.len().saturating_sub(1))
+}
+
+/// The first `count` words.
+pub fn words_before<'w, 't>(words: &'w [Word<'t>], count: usize) -> &'w [Word<'t>]
+    ensures { result.now ≡ take count words.now }
+{
+    if count < words.len() {
+        &words[..count]
+    } else {
+        words
+    }
 }
 
 /// The words without the first `count`.

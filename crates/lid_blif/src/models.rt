@@ -15,7 +15,7 @@ use std::alloc::{AllocError, Global};
 fn names_of(
     alloc: Global,
     wanted: Keyword,
-    body: &[TextLine<'_>],
+    body: &[TextLine<'_, '_>],
 ) -> Result<Items<Name>, AllocError>
     ensures { IfOk result (λ names. names ≡ names_of wanted body.now) }
 {
@@ -25,10 +25,11 @@ fn names_of(
             push_copies(alloc, words_after(line.words(), 1), &mut names)?;
         }
     }
+    names.shrink_to_fit();
     Ok(Items::from_vec(names))
 }
 
-fn cells_of(alloc: Global, body: &[TextLine<'_>]) -> Result<Items<Cell>, AllocError>
+fn cells_of(alloc: Global, body: &[TextLine<'_, '_>]) -> Result<Items<Cell>, AllocError>
     requires { AllByRecursion IsNarrow body.now }
     ensures { IfOk result (λ cells. cells ≡ cells_of body.now) }
 {
@@ -36,10 +37,11 @@ fn cells_of(alloc: Global, body: &[TextLine<'_>]) -> Result<Items<Cell>, AllocEr
     for (at, line) in body.iter().enumerate() {
         push_cell(alloc, line, &body[at + 1..], &mut cells)?;
     }
+    cells.shrink_to_fit();
     Ok(Items::from_vec(cells))
 }
 
-fn insts_of(alloc: Global, body: &[TextLine<'_>]) -> Result<Items<Inst>, AllocError>
+fn insts_of(alloc: Global, body: &[TextLine<'_, '_>]) -> Result<Items<Inst>, AllocError>
     ensures { IfOk result (λ insts. insts ≡ insts_of body.now) }
 {
     let mut insts = Vec::new(alloc);
@@ -49,6 +51,7 @@ fn insts_of(alloc: Global, body: &[TextLine<'_>]) -> Result<Items<Inst>, AllocEr
             insts.push(inst)?;
         }
     }
+    insts.shrink_to_fit();
     Ok(Items::from_vec(insts))
 }
 
@@ -60,7 +63,7 @@ struct Ports {
     clocks: Items<Name>,
 }
 
-fn ports_of(alloc: Global, body: &[TextLine<'_>]) -> Result<Ports, AllocError>
+fn ports_of(alloc: Global, body: &[TextLine<'_, '_>]) -> Result<Ports, AllocError>
     ensures inputs { IfOk result (λ ports. ports.inputs ≡ names_of Keyword.Inputs body.now) }
     ensures outputs { IfOk result (λ ports. ports.outputs ≡ names_of Keyword.Outputs body.now) }
     ensures clocks { IfOk result (λ ports. ports.clocks ≡ names_of Keyword.Clock body.now) }
@@ -82,7 +85,7 @@ struct Parts {
     insts: Items<Inst>,
 }
 
-fn parts_of(alloc: Global, body: &[TextLine<'_>]) -> Result<Parts, AllocError>
+fn parts_of(alloc: Global, body: &[TextLine<'_, '_>]) -> Result<Parts, AllocError>
     requires { AllByRecursion IsNarrow body.now }
     ensures cells { IfOk result (λ parts. parts.cells ≡ cells_of body.now) }
     ensures insts { IfOk result (λ parts. parts.insts ≡ insts_of body.now) }
@@ -93,7 +96,7 @@ fn parts_of(alloc: Global, body: &[TextLine<'_>]) -> Result<Parts, AllocError>
 }
 
 #[tactic(auto, unfolding(crate::specs::Designs::model_of))]
-fn model_of(alloc: Global, name: &[u8], body: &[TextLine<'_>]) -> Result<Model, AllocError>
+fn model_of(alloc: Global, name: &[u8], body: &[TextLine<'_, '_>]) -> Result<Model, AllocError>
     requires { AllByRecursion IsNarrow body.now }
     ensures { IfOk result (λ model. model ≡ model_of name.now body.now) }
 {
@@ -116,7 +119,7 @@ fn model_of(alloc: Global, name: &[u8], body: &[TextLine<'_>]) -> Result<Model, 
     })
 }
 
-fn models_of(alloc: Global, lines: &[TextLine<'_>]) -> Result<Items<Model>, AllocError>
+fn models_of(alloc: Global, lines: &[TextLine<'_, '_>]) -> Result<Items<Model>, AllocError>
     requires { AllByRecursion IsNarrow lines.now }
     ensures { IfOk result (λ models. models ≡ models_of lines.now) }
 {
@@ -133,7 +136,7 @@ fn models_of(alloc: Global, lines: &[TextLine<'_>]) -> Result<Items<Model>, Allo
 
 /// The design that some lines stand for.
 #[tactic(auto, unfolding(crate::specs::Designs::design_of))]
-pub fn design_of(alloc: Global, lines: &[TextLine<'_>]) -> Result<Design, AllocError>
+pub fn design_of(alloc: Global, lines: &[TextLine<'_, '_>]) -> Result<Design, AllocError>
     requires { AllByRecursion IsNarrow lines.now }
     ensures { IfOk result (λ design. design ≡ design_of lines.now) }
 {

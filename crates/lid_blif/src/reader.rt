@@ -4,14 +4,15 @@ ghost use Rattle.std.specs.Prelude.{◌≡◌, ◌≤◌, ◌⊎◌, length, IfO
 ghost use Rattle.lid_base.specs.Lines.{logical_lines};
 ghost use Rattle.lid_blif.specs.Faults.{blif_fault, lines_fault};
 ghost use Rattle.lid_blif.specs.Designs.{design_of};
+ghost use Rattle.lid_blif.specs.Joins.{lines_cut};
 ghost use Rattle.lid_design.specs.WellFormed.{IsWellFormed};
 
-use crate::cutting::lines;
+use crate::cutting::{Span, WordList, lines_cut, word_list};
 use crate::fault::BlifFault;
-use crate::line::TextLine;
+use crate::line::{TextLine, Word};
 use crate::models::design_of;
 use crate::scan::scan;
-use lid_base::{TextFault, Which};
+use lid_base::{Items, TextFault, Which};
 use lid_design::Design;
 use std::alloc::Global;
 
@@ -29,7 +30,7 @@ fn of_text(fault: TextFault) -> BlifFault
     }
 }
 
-fn design_from(alloc: Global, lines: &[TextLine<'_>]) -> Result<Design, BlifFault>
+fn design_from(alloc: Global, lines: &[TextLine<'_, '_>]) -> Result<Design, BlifFault>
     ensures ok { IfOk result (λ d. (lines_fault lines.now ≡ None) × (d ≡ design_of lines.now)) }
     ensures err { IfErr result (λ e. (e ≡ BlifFault.Memory) ⊎ (lines_fault lines.now ≡ Some e)) }
 {
@@ -42,6 +43,32 @@ fn design_from(alloc: Global, lines: &[TextLine<'_>]) -> Result<Design, BlifFaul
             Ok(design) => Ok(design),
             Err(_) => Err(BlifFault::Memory),
         },
+    }
+}
+
+/// The lines of a list. Its spans go before the design is made.
+fn lines_from<'w, 't>(
+    alloc: Global,
+    words: &'w [Word<'t>],
+    spans: Vec<Span>,
+) -> Result<Items<TextLine<'w, 't>>, BlifFault>
+    ensures ok { IfOk result (λ lines. lines ≡ lines_cut spans.items words.now) }
+    ensures err { IfErr result (λ e. e ≡ BlifFault.Memory) }
+{
+    match lines_cut(alloc, words, spans.as_slice()) {
+        Ok(lines) => Ok(lines),
+        Err(_) => Err(BlifFault::Memory),
+    }
+}
+
+fn design_of_list(alloc: Global, list: WordList<'_>) -> Result<Design, BlifFault>
+    ensures ok { IfOk result (λ d. let ls = lines_cut list.entry.spans.items list.entry.words.items in (lines_fault ls ≡ None) × (d ≡ design_of ls)) }
+    ensures err { IfErr result (λ e. (e ≡ BlifFault.Memory) ⊎ (lines_fault (lines_cut list.entry.spans.items list.entry.words.items) ≡ Some e)) }
+{
+    let WordList { words, spans } = list;
+    match lines_from(alloc, words.as_slice(), spans) {
+        Ok(lines) => design_from(alloc, lines.as_slice()),
+        Err(fault) => Err(fault),
     }
 }
 
@@ -64,8 +91,8 @@ pub fn read(alloc: Global, bytes: &[u8]) -> Result<Design, BlifFault>
             count: bytes.len() as u64,
         });
     }
-    match lines(alloc, bytes, LONGEST_WORD) {
-        Ok(lines) => design_from(alloc, lines.as_slice()),
+    match word_list(alloc, bytes, LONGEST_WORD) {
+        Ok(list) => design_of_list(alloc, list),
         Err(fault) => Err(of_text(fault)),
     }
 }

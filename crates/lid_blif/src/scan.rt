@@ -28,7 +28,11 @@ fn is_known(names: &HashSet<&[u8]>, name: &[u8]) -> bool
     names.contains(name)
 }
 
-fn model_fault(context: &Context, names: &HashSet<&[u8]>, model: &TextLine<'_>) -> Option<BlifFault>
+fn model_fault(
+    context: &Context,
+    names: &HashSet<&[u8]>,
+    model: &TextLine<'_, '_>,
+) -> Option<BlifFault>
     requires { context.now.models + 1 < 2 ^ 64 }
     ensures { (earlier : List (List ℕ)) → HoldsNames names.now earlier → result ≡ told (model_cases context.now earlier model.now) }
 {
@@ -49,7 +53,7 @@ fn model_fault(context: &Context, names: &HashSet<&[u8]>, model: &TextLine<'_>) 
     }
 }
 
-fn names_fault(context: &Context, cover: &TextLine<'_>) -> Option<BlifFault>
+fn names_fault(context: &Context, cover: &TextLine<'_, '_>) -> Option<BlifFault>
     ensures { result ≡ told (names_cases context.now cover.now) }
 {
     let words = cover.words();
@@ -65,7 +69,7 @@ fn names_fault(context: &Context, cover: &TextLine<'_>) -> Option<BlifFault>
     }
 }
 
-fn latch_fault(context: &Context, latch: &TextLine<'_>) -> Option<BlifFault>
+fn latch_fault(context: &Context, latch: &TextLine<'_, '_>) -> Option<BlifFault>
     ensures { result ≡ told (latch_cases context.now latch.now) }
 {
     let words = latch.words();
@@ -83,7 +87,7 @@ fn latch_fault(context: &Context, latch: &TextLine<'_>) -> Option<BlifFault>
     }
 }
 
-fn subckt_fault(context: &Context, inst: &TextLine<'_>) -> Option<BlifFault>
+fn subckt_fault(context: &Context, inst: &TextLine<'_, '_>) -> Option<BlifFault>
     ensures { result ≡ told (subckt_cases context.now inst.now) }
 {
     let words = inst.words();
@@ -99,7 +103,7 @@ fn subckt_fault(context: &Context, inst: &TextLine<'_>) -> Option<BlifFault>
     }
 }
 
-fn is_mixed(context: &Context, row: &TextLine<'_>) -> bool
+fn is_mixed(context: &Context, row: &TextLine<'_, '_>) -> bool
     ensures { result ≡ is_mixed context.now row.now }
 {
     if is_zero_row(row) {
@@ -109,7 +113,7 @@ fn is_mixed(context: &Context, row: &TextLine<'_>) -> bool
     }
 }
 
-fn row_fault(context: &Context, row: &TextLine<'_>) -> Option<BlifFault>
+fn row_fault(context: &Context, row: &TextLine<'_, '_>) -> Option<BlifFault>
     requires { context.now.rows + 1 < 2 ^ 64 }
     ensures { result ≡ told (row_cases context.now row.now) }
 {
@@ -134,7 +138,11 @@ fn row_fault(context: &Context, row: &TextLine<'_>) -> Option<BlifFault>
 }
 
 #[tactic(auto, unfolding(crate::specs::Faults::line_fault))]
-fn line_fault(context: &Context, names: &HashSet<&[u8]>, line: &TextLine<'_>) -> Option<BlifFault>
+fn line_fault(
+    context: &Context,
+    names: &HashSet<&[u8]>,
+    line: &TextLine<'_, '_>,
+) -> Option<BlifFault>
     requires rows { context.now.rows + 1 < 2 ^ 64 }
     requires models { context.now.models + 1 < 2 ^ 64 }
     ensures { (earlier : List (List ℕ)) → HoldsNames names.now earlier → result ≡ line_fault context.now earlier line.now }
@@ -155,7 +163,7 @@ fn line_fault(context: &Context, names: &HashSet<&[u8]>, line: &TextLine<'_>) ->
     }
 }
 
-fn remember<'a>(line: &'a TextLine<'_>, names: &mut HashSet<&'a [u8]>) -> Result<(), AllocError>
+fn remember<'a>(line: &'a TextLine<'_, '_>, names: &mut HashSet<&'a [u8]>) -> Result<(), AllocError>
     ensures { OnOk result ((before : List Line) → HoldsNames names.old (model_names before) → HoldsNames names.new (model_names (line.now ∷ before))) }
 {
     if is_line(Keyword::Model, line) {
@@ -168,7 +176,7 @@ fn remember<'a>(line: &'a TextLine<'_>, names: &mut HashSet<&'a [u8]>) -> Result
 ///
 /// # Errors
 /// The fault of that line; `Memory` may come at any lines.
-pub fn scan(alloc: Global, lines: &[TextLine<'_>]) -> Result<(), BlifFault>
+pub fn scan(alloc: Global, lines: &[TextLine<'_, '_>]) -> Result<(), BlifFault>
     ensures ok { OnOk result (first_fault [] lines.now ≡ None) }
     ensures err { IfErr result (λ e. (e ≡ BlifFault.Memory) ⊎ (first_fault [] lines.now ≡ Some e)) }
 {

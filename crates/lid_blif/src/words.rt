@@ -53,28 +53,28 @@ fn same(keyword: Keyword, other: Keyword) -> bool
 }
 
 /// Whether a line begins with this keyword.
-pub fn is_line(wanted: Keyword, line: &TextLine<'_>) -> bool
+pub fn is_line(wanted: Keyword, line: &TextLine<'_, '_>) -> bool
     ensures { result ≡ is_line wanted line.now }
 {
     same(wanted, line.keyword())
 }
 
 /// Whether a row has the output 0.
-pub fn is_zero_row(row: &TextLine<'_>) -> bool
+pub fn is_zero_row(row: &TextLine<'_, '_>) -> bool
     ensures { result ≡ ends_in_zero row.now }
 {
     is_same(last_word(row.words()), b"0")
 }
 
 /// Whether a row has the output 1.
-pub fn is_one_row(row: &TextLine<'_>) -> bool
+pub fn is_one_row(row: &TextLine<'_, '_>) -> bool
     ensures { result ≡ ends_in_one row.now }
 {
     is_same(last_word(row.words()), b"1")
 }
 
 /// The rows that some lines begin with.
-pub fn leading_rows<'l, 't>(lines: &'l [TextLine<'t>]) -> &'l [TextLine<'t>]
+pub fn leading_rows<'l, 'w, 't>(lines: &'l [TextLine<'w, 't>]) -> &'l [TextLine<'w, 't>]
     ensures { result.now ≡ leading (is_line Row) lines.now }
 {
     for (at, line) in lines.iter().enumerate() {
@@ -86,7 +86,7 @@ pub fn leading_rows<'l, 't>(lines: &'l [TextLine<'t>]) -> &'l [TextLine<'t>]
 }
 
 /// The lines up to the first `.model`.
-pub fn leading_inner<'l, 't>(lines: &'l [TextLine<'t>]) -> &'l [TextLine<'t>]
+pub fn leading_inner<'l, 'w, 't>(lines: &'l [TextLine<'w, 't>]) -> &'l [TextLine<'w, 't>]
     ensures { result.now ≡ leading is_inner lines.now }
 {
     for (at, line) in lines.iter().enumerate() {
