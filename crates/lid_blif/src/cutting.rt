@@ -92,7 +92,12 @@ impl<'t> Joined<'t> {
         ensures { IfOk result (λ list. lines_cut list.spans.items list.words.items ≡ all_lines self.entry []) }
     {
         self.close(0)?;
-        let Joined { words, spans, .. } = self;
+        let Joined {
+            mut words,
+            spans,
+            ..
+        } = self;
+        words.shrink_to_fit();
         Ok(WordList { words, spans })
     }
 }

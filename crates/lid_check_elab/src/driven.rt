@@ -50,18 +50,19 @@ pub fn driven_of<'d>(
 {
     let _ = judged.design();
     let body = model_at(judged, model);
-    let mut driven = nothing_driven(alloc, body.cells.as_slice().len())?;
+    let mut driven = nothing_driven(alloc, body)?;
     push_inputs(&mut driven, judged, model, body.inputs.as_slice())?;
     push_cells(alloc, &mut driven, judged, model, body.cells.as_slice())?;
     push_insts(&mut driven, judged, outputs, model, body.insts.as_slice())?;
     Ok(driven)
 }
 
-/// Nothing that drives nets, with room for so much.
-fn nothing_driven<'d>(alloc: Global, room: usize) -> Result<Driven<'d>, AllocError>
+/// Nothing that drives nets, with room for the inputs and the cells of a model.
+fn nothing_driven<'d>(alloc: Global, body: &Model) -> Result<Driven<'d>, AllocError>
     ensures nets { IfOk result (λ driven. driven.nets.items ≡ []) }
     ensures locals { IfOk result (λ driven. driven.locals.items ≡ []) }
 {
+    let room = body.inputs.len().wrapping_add(body.cells.len());
     let nets = Vec::with_capacity(alloc, room)?;
     let locals = Vec::with_capacity(alloc, room)?;
     Ok(Driven { nets, locals })

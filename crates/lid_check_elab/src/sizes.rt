@@ -59,9 +59,10 @@ pub fn offsets_of(
     ensures each { IfOk result (λ offsets. (i o : ℕ) → slice_get offsets i ≡ Some o → o ≡ offset_of judged.now model i) }
 {
     let _ = judged.design();
-    let mut offsets = Vec::new(alloc);
+    let insts = count_insts(judged, model);
+    let mut offsets = Vec::with_capacity(alloc, insts as usize)?;
     let mut offset = count_nets(judged, model);
-    for inst in 0..count_insts(judged, model) {
+    for inst in 0..insts {
         offsets.push(offset)?;
         offset += inst_size(judged, sizes, model, inst);
     }

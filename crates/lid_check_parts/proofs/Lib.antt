@@ -9,3 +9,4 @@ pub mod Earlier
 pub mod Nets
 pub mod Rules
 pub mod Looping
+pub mod Taking

@@ -92,7 +92,7 @@ module _ (drivers : List ColumnDriver) (part : PearlPart) (is : IsNetworkPart dr
   pub long : length inner ≡ part.nets
   long = length-map-range_with_len (inner_driver drivers part) 0 part.nets
 
-  at : (k : ℕ) → k < part.nets → driver_at inner k ≡ inner_driver drivers part k
+  pub at : (k : ℕ) → k < part.nets → driver_at inner k ≡ inner_driver drivers part k
   at k h = get_or-map-range_with_len (inner_driver drivers part) 0 part.nets k k (Input 0) h (zero-add k)
 
   at_input : (k : ℕ) → k < part.nets → k < part.inputs → driver_at inner k ≡ Input k

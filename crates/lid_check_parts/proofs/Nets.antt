@@ -1,5 +1,5 @@
 -- What drives the nets of a flat part that is made in an order.
-use Rattle.std.proofs.Common.{◌≡◌, ◌<◌, ◌≤◌, ◌+◌, ◌==◌, ℕ, zero, suc, Bool, true, false, cond, List, [], ◌∷◌, ◌++◌, length, map, get_or, refl, ◌∙◌, ap, arith}
+use Rattle.std.proofs.Common.{◌≡◌, ◌<◌, ◌≤◌, ◌+◌, ◌==◌, ℕ, zero, suc, Bool, true, false, cond, List, [], ◌∷◌, ◌++◌, length, map, refl, ◌∙◌, ap, arith}
 use Rattle.std.specs.List.{flat_map, range_with_len}
 use Rattle.std.proofs.lemmas.List.{append-nil, length-map}
 use Rattle.std.proofs.lemmas.Bool.{eqb-true, eqb-false, eq-eqb, ne_eqb}
@@ -45,15 +45,6 @@ inputs_one k a (suc n) first last = by (a == k) refl (inputs_one k (a + 1) n)
         past zero (suc k) h apart = omega arith
         past (suc a) zero h apart = absurd (omega arith)
         past (suc a) (suc k) h apart = let r = past a k (omega arith) (λ e. apart (ap suc e)) in omega arith
-
--- a driver that was read
-pub read_at : (inner : List ColumnDriver) (k : ℕ) (s : ColumnDriver) → k < length inner → s ≡ get_or inner k s → s ≡ driver_at inner k
-read_at inner k s h is = is ∙ get_default inner k h
-  where
-    get_default : (xs : List ColumnDriver) (i : ℕ) → i < length xs → get_or xs i s ≡ get_or xs i (Input 0)
-    get_default [] i h = absurd (omega arith)
-    get_default (x ∷ xs) zero h = refl
-    get_default (x ∷ xs) (suc i) h = get_default xs i (omega arith)
 
 latch_elsewhere : (d : Design) (k j : ℕ) (s : ColumnDriver) → (j ≡ k → ⊥) → flat_map (latch_at k) (latches_of j (shown_driver d s)) ≡ []
 latch_elsewhere d k j (Latch first input) apart = ap (λ (b : Bool). cond b (from_latch first input ∷ []) [] ++ []) (ne_eqb j k apart)

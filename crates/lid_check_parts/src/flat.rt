@@ -7,12 +7,12 @@ ghost use Rattle.lid_check_elab.specs.Elaborations.{driver_reads};
 ghost use Rattle.lid_check_parts.specs.Parts.{HasCover, IsNetworkPart, IsFlattened};
 ghost use Rattle.lid_check_parts.specs.Inner.{inner_drivers};
 
-use crate::cells::find_cells;
-use crate::inner::find_drivers;
+use crate::cells::{Source, find_cells};
+use crate::inner::find_reads;
 use crate::part::PearlPart;
 use lid_base::Items;
 use lid_check_digraph::{Digraph, Found, find_order};
-use lid_check_elab::{ColumnDriver, find_reads};
+use lid_check_elab::ColumnDriver;
 use lid_design::{Design, Flat};
 use std::alloc::{AllocError, Global};
 
@@ -31,7 +31,7 @@ pub fn numbers_from(alloc: Global, first: u32, count: u32) -> Result<Items<u32>,
     requires { first + count < 2 ^ 32 }
     ensures { IfOk result (λ numbers. numbers ≡ range_with_len first count) }
 {
-    let mut numbers = Vec::new(alloc);
+    let mut numbers = Vec::with_capacity(alloc, count as usize)?;
     for k in 0..count {
         numbers.push(first + k)?;
     }
@@ -50,15 +50,12 @@ fn find_ports(alloc: Global, part: PearlPart) -> Result<Ports, AllocError>
 }
 
 /// An order of some nets, in which each stands after those that it reads in the same row.
-fn order_of(alloc: Global, inner: &[ColumnDriver]) -> Result<Items<u32>, AllocError>
-    requires graph { IsGraph (map driver_reads inner.now) }
-    requires loops { HasNoLoop (map driver_reads inner.now) }
-    ensures { IfOk result (IsOrder (map driver_reads inner.now)) }
+fn order_of(alloc: Global, reads: &[Items<u32>]) -> Result<Items<u32>, AllocError>
+    requires graph { IsGraph reads.now }
+    requires loops { HasNoLoop reads.now }
+    ensures { IfOk result (IsOrder reads.now) }
 {
-    let reads = find_reads(alloc, inner)?;
-    let graph = Digraph {
-        reads: reads.as_slice(),
-    };
+    let graph = Digraph { reads };
     match find_order(alloc, &graph)? {
         Found::Order(order) => Ok(order),
         Found::Loop(_) => unreachable!(),
@@ -83,31 +80,29 @@ pub fn flatten(
     requires loops { HasNoLoop (map driver_reads drivers.now) }
     ensures { IfOk result (IsFlattened design.now drivers.now part) }
 {
-    let inner = find_drivers(alloc, drivers, part)?;
-    flat_of(alloc, design, drivers, part, inner.as_slice())
+    let reads = find_reads(alloc, drivers, part)?;
+    let source = Source {
+        design,
+        drivers,
+        part,
+    };
+    flat_of(alloc, &source, reads)
 }
 
-/// The flat part of a part, by what drives its nets.
-fn flat_of(
-    alloc: Global,
-    design: &Design,
-    drivers: &[ColumnDriver],
-    part: PearlPart,
-    inner: &[ColumnDriver],
-) -> Result<Flat, AllocError>
-    requires part { IsNetworkPart drivers.now part }
-    requires few { length drivers.now ≤ 1048576 }
-    requires covers { AllByRecursion (HasCover design.now) drivers.now }
-    requires loops { HasNoLoop (map driver_reads drivers.now) }
-    requires inner { inner.now ≡ inner_drivers drivers.now part }
-    ensures { IfOk result (IsFlattened design.now drivers.now part) }
+/// The flat part of a part, by what its nets read.
+fn flat_of(alloc: Global, source: &Source<'_>, reads: Items<Items<u32>>) -> Result<Flat, AllocError>
+    requires part { IsNetworkPart source.now.drivers.now source.now.part }
+    requires few { length source.now.drivers.now ≤ 1048576 }
+    requires covers { AllByRecursion (HasCover source.now.design.now) source.now.drivers.now }
+    requires loops { HasNoLoop (map driver_reads source.now.drivers.now) }
+    requires reads { reads ≡ map driver_reads (inner_drivers source.now.drivers.now source.now.part) }
+    ensures { IfOk result (IsFlattened source.now.design.now source.now.drivers.now source.now.part) }
 {
-    let _ = drivers;
-    let order = order_of(alloc, inner)?;
-    let cells = find_cells(alloc, design, inner, order.as_slice())?;
-    let ports = find_ports(alloc, part)?;
+    let order = order_of(alloc, reads.as_slice())?;
+    let cells = find_cells(alloc, source, reads.into_vec(), order.as_slice())?;
+    let ports = find_ports(alloc, source.part)?;
     Ok(Flat {
-        nets: part.nets,
+        nets: source.part.nets,
         ins: ports.ins,
         outs: ports.outs,
         latches: Items::from_vec(cells.latches),

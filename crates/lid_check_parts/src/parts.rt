@@ -75,7 +75,7 @@ fn inst_parts(alloc: Global, columns: &Elaboration<'_>) -> Result<Items<PearlPar
     ensures { IfOk result (ArePearlParts columns.now.design columns.now.drivers) }
 {
     let _ = columns.judged();
-    let mut parts = Vec::new(alloc);
+    let mut parts = Vec::with_capacity(alloc, columns.starts().len())?;
     for i in 0..columns.starts().len() {
         parts.push(inst_part(columns, i))?;
     }

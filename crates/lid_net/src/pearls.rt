@@ -19,8 +19,9 @@ pub(crate) fn collect_parts(alloc: Global, checked: &Checked) -> Result<Vec<Shel
     ensures { IfOk result (λ parts. ArePartsOf checked.now (length (columns checked.now)) parts.items) }
 {
     let _ = checked.design();
-    let mut parts = Vec::new(alloc);
-    for pearl in 0..checked.pearls() {
+    let count = checked.pearls();
+    let mut parts = Vec::with_capacity(alloc, count as usize)?;
+    for pearl in 0..count {
         parts.push(part_of(alloc, checked, pearl)?)?;
     }
     Ok(parts)
@@ -35,23 +36,23 @@ fn part_of(alloc: Global, checked: &Checked, pearl: u32) -> Result<ShellPart, Al
     let _ = checked.network();
     let numbers = checked.part(pearl);
     let flat = checked.flat(alloc, pearl)?;
-    number_flat(alloc, &flat, numbers)
+    number_flat(alloc, flat, numbers)
 }
 
 /// The part of a flat part whose columns have these numbers.
 fn number_flat(
     alloc: Global,
-    flat: &Flat,
+    flat: Flat,
     numbers: lid_check::PearlPart,
 ) -> Result<ShellPart, AllocError>
-    requires rules { IsFlat flat.now }
+    requires rules { IsFlat flat }
     requires ports { numbers.inputs + numbers.outputs ≤ numbers.nets }
     requires few { numbers.start + numbers.nets ≤ 1048576 }
-    ensures { IfOk result (IsNumberedShell numbers flat.now) }
+    ensures { IfOk result (IsNumberedShell numbers flat) }
 {
     let outputs = numbers.start + numbers.inputs;
     let ins = numbers_from(alloc, numbers.start, numbers.inputs)?;
     let outs = numbers_from(alloc, outputs, numbers.outputs)?;
-    let pearl = Pearl::make(alloc, flat)?;
+    let pearl = Pearl::lay_out(alloc, flat)?;
     Ok(ShellPart { pearl, ins, outs })
 }

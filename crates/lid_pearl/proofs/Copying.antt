@@ -5,11 +5,12 @@ use Rattle.lid_base.specs.Lists.{Among}
 use Rattle.lid_design.specs.declared.FlatLatch.{FlatLatch}
 use Rattle.lid_design.specs.declared.FlatCover.{FlatCover}
 use Rattle.lid_design.specs.Flat.{latch_input, IsRow, ReadEarlier}
+use Rattle.lid_strict_engine.specs.declared.program.Program.{Program}
 use Rattle.lid_strict_widths.specs.declared.group.ByWidth.{ByWidth}
 use Rattle.lid_strict_widths.specs.Groups.{IsByWidth}
 use Rattle.lid_strict_engine.specs.Programs.{program_covers}
 use Rattle.lid_strict_engine.specs.Rows.{AreRightAt, known_after}
-use Rattle.lid_pearl.specs.Inside.{held, ArePearlFields}
+use Rattle.lid_pearl.specs.Inside.{held, IsOrdered, ArePearlFields}
 
 module _ (nets : ℕ) (ins outs : List ℕ) (latches : List FlatLatch) (early late early' late' : ByWidth) (state bits : List Bool) (by_width : IsByWidth early') (by_width' : IsByWidth late') (same : early'.program.nets ≡ early.program.nets) (same' : late'.program.nets ≡ late.program.nets) (is : program_covers early'.program ≡ program_covers early.program) (is' : program_covers late'.program ≡ program_covers late.program) where
   pub kept_by_copies : ArePearlFields nets ins outs latches early late state bits → ArePearlFields nets ins outs latches early' late' state bits
@@ -46,3 +47,12 @@ module _ (nets : ℕ) (ins outs : List ℕ) (latches : List FlatLatch) (early la
         (subst (λ (x : List FlatLatch). ArePearlFields nets ins outs x early' late' state' bits') (sym l)
         (subst (λ (x : List Bool). ArePearlFields nets ins outs latches early' late' x bits') (sym s)
         (subst (λ (x : List Bool). ArePearlFields nets ins outs latches early' late' state x) (sym b) (kept_by_copies kept))))))
+
+-- programs that are in order for some nets are so for equal ones
+module _ (early late : Program) (nets nets' : ℕ) (ins outs ins' outs' : List ℕ) (latches latches' : List FlatLatch) (n : nets' ≡ nets) (i : ins' ≡ ins) (o : outs' ≡ outs) (l : latches' ≡ latches) where
+  pub ordered_by_equals : IsOrdered nets ins outs latches early late → IsOrdered nets' ins' outs' latches' early late
+  ordered_by_equals ordered =
+      subst (λ (x : ℕ). IsOrdered x ins' outs' latches' early late) (sym n)
+      (subst (λ (x : List ℕ). IsOrdered nets x outs' latches' early late) (sym i)
+      (subst (λ (x : List ℕ). IsOrdered nets ins x latches' early late) (sym o)
+      (subst (λ (x : List FlatLatch). IsOrdered nets ins outs x early late) (sym l) ordered)))

@@ -4,12 +4,12 @@ ghost use Rattle.std.specs.Prelude.{◌≡◌, ◌<◌, ◌+◌, ◌++◌, ℕ, 
 ghost use Rattle.std.specs.List.{AllByRecursion};
 ghost use Rattle.lid_design.specs.declared.FlatLatch.{FlatLatch};
 ghost use Rattle.lid_design.specs.Flat.{latch_init, latch_input, IsFlat, IsRow, ReadEarlier};
-ghost use Rattle.lid_strict_engine.specs.Programs.{program_covers};
+ghost use Rattle.lid_strict_engine.specs.Programs.{program_covers, IsProgram};
 ghost use Rattle.lid_strict_widths.specs.Groups.{IsByWidth};
 ghost use Rattle.lid_pearl.specs.Pearls.{IsSplit};
 ghost use Rattle.lid_pearl.specs.Inside.{held, AreLatchNets, AreSettled, IsOrdered, ArePearlFields};
 
-use crate::split::{find_marks, lay_out};
+use crate::split::{Halves, find_marks, lay_out, run_by_level, take_apart};
 use lid_design::{Flat, FlatLatch};
 use lid_strict_engine::{copy_of, first_state, put_bits, take_bits};
 use lid_strict_widths::{ByWidth, settle_by_width};
@@ -98,7 +98,27 @@ impl Pearl {
             flat.latches.as_slice(),
         )?;
         let plan = plan_of(alloc, flat)?;
-        let row = first_row(alloc, flat, shape.latches.held.as_slice(), &plan.early)?;
+        let row = first_row(alloc, &shape, &plan.early)?;
+        Ok(Pearl { shape, plan, row })
+    }
+
+    /// A pearl in its initial state, as `make` gives it, of a flat part that is taken apart: what a cover
+    /// takes is given back once it is laid out.
+    pub fn lay_out(alloc: Global, flat: Flat) -> Result<Pearl, AllocError>
+        requires { IsFlat flat }
+        ensures reordered { IfOk result (λ pearl. IsReordered flat pearl.flat) }
+        ensures rules { IfOk result (λ pearl. IsFlat pearl.flat) }
+        ensures state { IfOk result (λ pearl. pearl.state ≡ map latch_init flat.latches) }
+    {
+        let shape = shape_of(
+            alloc,
+            flat.nets,
+            flat.ins.as_slice(),
+            flat.outs.as_slice(),
+            flat.latches.as_slice(),
+        )?;
+        let plan = plan_apart(alloc, flat)?;
+        let row = first_row(alloc, &shape, &plan.early)?;
         Ok(Pearl { shape, plan, row })
     }
 
@@ -266,19 +286,47 @@ fn plan_of(alloc: Global, flat: &Flat) -> Result<Plan, AllocError>
     Ok(Plan { early, late })
 }
 
-/// The bits of a flat part as it begins.
-fn first_row(alloc: Global, flat: &Flat, outs: &[u32], early: &ByWidth) -> Result<Row, AllocError>
-    requires outs { outs.now ≡ held flat.now.latches }
-    requires nets { early.now.program.nets ≡ flat.now.nets }
-    requires is { IsByWidth early.now }
-    requires rules { IsFlat flat.now }
-    requires reads { ReadEarlier (held flat.now.latches) (program_covers early.now.program) }
-    ensures state { IfOk result (λ row. row.state.items ≡ map latch_init flat.now.latches) }
-    ensures size { IfOk result (λ row. length row.bits.items ≡ flat.now.nets) }
-    ensures settled { IfOk result (λ row. AreSettled flat.now.latches early.now.program row.state.items row.bits.items) }
+/// The covers of a flat part that is taken apart, early and late ones, by level and width.
+fn plan_apart(alloc: Global, flat: Flat) -> Result<Plan, AllocError>
+    requires { IsFlat flat }
+    ensures is { IfOk result (λ plan. IsByWidth plan.early × IsByWidth plan.late) }
+    ensures ordered { IfOk result (λ plan. IsOrdered flat.nets flat.ins flat.outs flat.latches plan.early.program plan.late.program) }
+    ensures split { IfOk result (λ plan. IsSplit flat.covers (program_covers plan.early.program) (program_covers plan.late.program)) }
+    ensures rules { IfOk result (λ plan. ReadEarlier (flat.ins ++ held flat.latches)
+        (program_covers plan.early.program ++ program_covers plan.late.program)) }
 {
-    let state = first_state(alloc, flat.latches.as_slice())?;
-    let mut bits = Vec::from_elem(alloc, false, flat.nets as usize)?;
+    let marks = find_marks(alloc, &flat)?;
+    let Flat { nets, covers, .. } = flat;
+    let halves = take_apart(alloc, nets, covers.into_vec(), marks.as_slice())?;
+    run_halves(halves)
+}
+
+/// Covers that were laid out, by level and width.
+fn run_halves(halves: Halves) -> Result<Plan, AllocError>
+    requires { IsProgram halves.early × IsProgram halves.late }
+    ensures is { IfOk result (λ plan. IsByWidth plan.early × IsByWidth plan.late) }
+    ensures programs { IfOk result (λ plan. (plan.early.program ≡ halves.early) × (plan.late.program ≡ halves.late)) }
+{
+    let Halves { early, late } = halves;
+    let early = run_by_level(early)?;
+    let late = run_by_level(late)?;
+    Ok(Plan { early, late })
+}
+
+/// The bits of a pearl as it begins.
+fn first_row(alloc: Global, shape: &Shape, early: &ByWidth) -> Result<Row, AllocError>
+    requires latches { AreLatchNets shape.now.latches.all.items shape.now.latches.held.items shape.now.latches.taken.items }
+    requires nets { early.now.program.nets ≡ shape.now.nets }
+    requires is { IsByWidth early.now }
+    requires below { AllByRecursion (λ k. k < shape.now.nets) (held shape.now.latches.all.items) }
+    requires reads { ReadEarlier (held shape.now.latches.all.items) (program_covers early.now.program) }
+    ensures state { IfOk result (λ row. row.state.items ≡ map latch_init shape.now.latches.all.items) }
+    ensures size { IfOk result (λ row. length row.bits.items ≡ shape.now.nets) }
+    ensures settled { IfOk result (λ row. AreSettled shape.now.latches.all.items early.now.program row.state.items row.bits.items) }
+{
+    let outs = shape.latches.held.as_slice();
+    let state = first_state(alloc, shape.latches.all.as_slice())?;
+    let mut bits = Vec::from_elem(alloc, false, shape.nets as usize)?;
     settle_state(outs, early, state.as_slice(), bits.as_mut_slice());
     Ok(Row { state, bits })
 }

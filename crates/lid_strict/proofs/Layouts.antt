@@ -16,13 +16,12 @@ use Rattle.lid_design.specs.Flat.{latch_out, latch_input, latch_init, ReadEarlie
 use Rattle.lid_check_digraph.specs.Graphs.{IsOrder}
 use Rattle.lid_check_digraph.proofs.Lists.{index_among}
 use Rattle.lid_check_elab.specs.declared.driver.ColumnDriver.{ColumnDriver}
-use Rattle.lid_check_elab.specs.Elaborations.{shown_driver}
 use Rattle.lid_check_parts.specs.Inner.{latches_of}
 use Rattle.lid_check_parts.proofs.Lists.{pushed_more}
 use Rattle.lid_strict_engine.specs.Rows.{bit_at, known_after}
 use Rattle.lid_strict_engine.proofs.Settling.{after_keeps, after_has}
 use Rattle.lid_strict.specs.Networks.{driver_list, driver_at, reads_of, AreTakenBelow, rows_at}
-use Rattle.lid_strict.specs.Stems.{stem_at, stem_by, stem_covers, latch_stem, AreStems}
+use Rattle.lid_strict.specs.Stems.{stem_at, stem_by, stem_covers, latch_stem, unbuffered_driver, AreStems}
 use Rattle.lid_strict.specs.Layouts.{input_nets, input_places, nets_in, places_in, latches_in, covers_in, IsLaidOut, known_first, IsSettled, IsRunnable, held_bits, FitsTable}
 use Rattle.lid_strict.specs.declared.layout.Layout.{Layout}
 use Rattle.lid_base.proofs.Alls.{all_from_among, all_flat, all_map, all_map_by}
@@ -49,9 +48,9 @@ driver_here : (drivers : List ColumnDriver) (k : ℕ) (driver : ColumnDriver) �
 driver_here drivers k driver h is = slice_get-get_or drivers k driver h ∙ ap Some (sym is)
 
 -- a driver as one of a network
-driver_is : (d : Design) (drivers : List ColumnDriver) (k : ℕ) (driver : ColumnDriver) → slice_get drivers k ≡ Some driver → shown_driver d driver ≡ driver_at (map (shown_driver d) drivers) k
+driver_is : (d : Design) (drivers : List ColumnDriver) (k : ℕ) (driver : ColumnDriver) → slice_get drivers k ≡ Some driver → unbuffered_driver d driver ≡ driver_at (map (unbuffered_driver d) drivers) k
 driver_is d drivers k driver here =
-    let show : ColumnDriver → Driver ℕ = shown_driver d in
+    let show : ColumnDriver → Driver ℕ = unbuffered_driver d in
     let shown : slice_get (map show drivers) k ≡ Some (show driver) = slice_get-map show drivers k ∙ ap (option_map show) here in
     sym (get_or_from_slice_get (map show drivers) k (show driver) (from_input 0) shown)
 
@@ -306,30 +305,27 @@ module _ (network : List (Driver ℕ)) (order : List ℕ) (ordered : IsOrder (re
           taken : (u : ℕ) → u < t → (l : FlatLatch) → Among l (latches_in network order) → b u (stem_at stems l.input) ≡ b u l.input
           taken u less l among = stem_bit rows b strict u (omega arith) l.input (order_has l.input (all_among (λ (l : FlatLatch). l.input < length network) (latches_in network order) l (latch_reads below) among))
 
-pub order_within : (d : Design) (drivers : List ColumnDriver) (order : List ℕ) → IsOrder (reads_of (map (shown_driver d) drivers)) order → AllByRecursion (λ k. k < length drivers) order
-order_within d drivers order ordered = all_from_among (λ k. k < length drivers) order (λ k among. subst (λ (n : ℕ). k < n) (length-map drivers (shown_driver d)) (order_below (map (shown_driver d) drivers) order ordered k among))
-
-pub numbers_within : (d : Design) (drivers : List ColumnDriver) (ks : List ℕ) → AllByRecursion (λ k. k < length drivers) ks → AllByRecursion (λ k. k < length (map (shown_driver d) drivers)) ks
-numbers_within d drivers ks below = subst (λ (n : ℕ). AllByRecursion (λ k. k < n) ks) (sym (length-map drivers (shown_driver d))) below
+pub numbers_within : (d : Design) (drivers : List ColumnDriver) (ks : List ℕ) → AllByRecursion (λ k. k < length drivers) ks → AllByRecursion (λ k. k < length (map (unbuffered_driver d) drivers)) ks
+numbers_within d drivers ks below = subst (λ (n : ℕ). AllByRecursion (λ k. k < n) ks) (sym (length-map drivers (unbuffered_driver d))) below
 
 -- a driver that is read along an order
-module _ (d : Design) (drivers : List ColumnDriver) (order : List ℕ) (ordered : IsOrder (reads_of (map (shown_driver d) drivers)) order) (i : ℕ) (h : i < length order) where
+module _ (d : Design) (drivers : List ColumnDriver) (order : List ℕ) (ordered : IsOrder (reads_of (map (unbuffered_driver d) drivers)) order) (i : ℕ) (h : i < length order) where
   abbrev number : ℕ
   number = slice_index_or order i 0
 
   pub number_below : number < length drivers
-  number_below = subst (λ (n : ℕ). number < n) (length-map drivers (shown_driver d)) (order_below (map (shown_driver d) drivers) order ordered number (among_at order i 0 h))
+  number_below = subst (λ (n : ℕ). number < n) (length-map drivers (unbuffered_driver d)) (order_below (map (unbuffered_driver d) drivers) order ordered number (among_at order i 0 h))
 
   module _ (driver : ColumnDriver) (read : driver ≡ slice_index_or drivers number driver) where
     pub driver_there : slice_get drivers number ≡ Some driver
     driver_there = driver_here drivers number driver number_below read
 
-    pub driver_same : shown_driver d driver ≡ driver_at (map (shown_driver d) drivers) number
+    pub driver_same : unbuffered_driver d driver ≡ driver_at (map (unbuffered_driver d) drivers) number
     driver_same = driver_is d drivers number driver driver_there
 
     -- the stems of what it reads have numbers
-    pub reads_within : (stems : List ℕ) → AreStems (map (shown_driver d) drivers) order stems → AllByRecursion (λ a. a < length drivers) (map (stem_at stems) (read_now (shown_driver d driver)))
+    pub reads_within : (stems : List ℕ) → AreStems (map (unbuffered_driver d) drivers) order stems → AllByRecursion (λ a. a < length drivers) (map (stem_at stems) (read_now (unbuffered_driver d driver)))
     reads_within stems are =
-        let network = map (shown_driver d) drivers in
-        subst (λ (n : ℕ). AllByRecursion (λ a. a < n) (map (stem_at stems) (read_now (shown_driver d driver)))) (length-map drivers (shown_driver d))
+        let network = map (unbuffered_driver d) drivers in
+        subst (λ (n : ℕ). AllByRecursion (λ a. a < n) (map (stem_at stems) (read_now (unbuffered_driver d driver)))) (length-map drivers (unbuffered_driver d))
         (subst (λ (s : Driver ℕ). AllByRecursion (λ a. a < length network) (map (stem_at stems) (read_now s))) (sym driver_same) (stems_below network order ordered stems are i h))

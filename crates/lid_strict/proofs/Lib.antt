@@ -4,3 +4,4 @@ pub mod Outputs
 pub mod Accepted
 pub mod Stemming
 pub mod Layouts
+pub mod Buffers

@@ -1,5 +1,5 @@
 -- A run goes on by a row.
-use Rattle.std.proofs.Common.{◌≡◌, ◌<◌, ◌+◌, ℕ, zero, suc, Bool, List, [], ◌∷◌, ◌++◌, length, map, slice_index_or, refl, sym, ◌∙◌, ap, subst, arith, add-zero}
+use Rattle.std.proofs.Common.{◌≡◌, ◌<◌, ◌+◌, ℕ, zero, suc, Bool, List, [], ◌∷◌, ◌++◌, length, map, slice_index_or, sym, ◌∙◌, ap, subst, arith, add-zero}
 use Rattle.std.specs.List.{AllByRecursion}
 use Rattle.lid_base.specs.Each.{from_each}
 use Rattle.lid_strict_engine.specs.Rows.{bit_at}

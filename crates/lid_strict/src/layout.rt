@@ -7,15 +7,14 @@ ghost use Rattle.lid_design.specs.Feeds.{read_now};
 ghost use Rattle.lid_design.specs.Flat.{latch_out, latch_init};
 ghost use Rattle.lid_check_digraph.specs.Graphs.{IsOrder};
 ghost use Rattle.lid_check_elab.specs.Covers.{no_cover};
-ghost use Rattle.lid_check_elab.specs.Elaborations.{shown_driver};
 ghost use Rattle.lid_strict_engine.specs.Programs.{program_covers, IsProgram};
 ghost use Rattle.lid_strict.specs.Networks.{reads_of};
-ghost use Rattle.lid_strict.specs.Stems.{stem_at, stem_covers, latch_stem, AreStems};
+ghost use Rattle.lid_strict.specs.Stems.{stem_at, stem_covers, latch_stem, unbuffered_driver, AreStems};
 ghost use Rattle.lid_check_parts.specs.Parts.{HasCover};
 ghost use Rattle.lid_check_parts.specs.Inner.{latches_of};
 ghost use Rattle.lid_strict.specs.Layouts.{input_nets, input_places, IsLaidOut};
 
-use crate::stems::{stem_of, write_stems};
+use crate::stems::{is_buffer, stem_of, write_stems};
 use lid_base::Items;
 use lid_check_elab::{ColumnDriver, cover_at};
 use lid_cover::Cover;
@@ -26,7 +25,7 @@ use std::alloc::{AllocError, Global};
 /// What gives each number of a network its bit.
 #[derive(Drop)]
 pub struct Layout {
-    /// The covers, which read stems. A connection has no step.
+    /// The covers, which read stems. A connection has no step, nor has a buffer.
     pub program: Program,
     /// The numbers of data inputs of the root.
     pub ins: Vec<u32>,
@@ -55,10 +54,10 @@ pub fn lay_out(
     order: &[u32],
     stems: &[u32],
 ) -> Result<Layout, AllocError>
-    requires ordered { IsOrder (reads_of (map (shown_driver design.now) drivers.now)) order.now }
+    requires ordered { IsOrder (reads_of (map (unbuffered_driver design.now) drivers.now)) order.now }
     requires covers { AllByRecursion (HasCover design.now) drivers.now }
-    requires stems { AreStems (map (shown_driver design.now) drivers.now) order.now stems.now }
-    ensures { IfOk result (IsLaidOut (map (shown_driver design.now) drivers.now) stems.now order.now) }
+    requires stems { AreStems (map (unbuffered_driver design.now) drivers.now) order.now stems.now }
+    ensures { IfOk result (IsLaidOut (map (unbuffered_driver design.now) drivers.now) stems.now order.now) }
 {
     let mut scratch = no_scratch(alloc);
     let mut layout = no_layout(alloc, drivers.len());
@@ -116,19 +115,19 @@ fn push_driver(
     requires none { scratch.old.none ≡ no_cover }
     requires program { IsProgram layout.old.program }
     requires number { number < layout.old.program.nets }
-    requires reads { AllByRecursion (λ k. k < layout.old.program.nets) (map (stem_at stems.now) (read_now (shown_driver design.now driver.now))) }
+    requires reads { AllByRecursion (λ k. k < layout.old.program.nets) (map (stem_at stems.now) (read_now (unbuffered_driver design.now driver.now))) }
     requires cover { HasCover design.now driver.now }
     ensures none { OnOk result (scratch.new.none ≡ no_cover) }
     ensures program { OnOk result (IsProgram layout.new.program) }
     ensures nets { OnOk result (layout.new.program.nets ≡ layout.old.program.nets) }
     ensures covers { OnOk result (program_covers layout.new.program ≡ program_covers layout.old.program
-        ++ stem_covers stems.now number (shown_driver design.now driver.now)) }
-    ensures ins { OnOk result (layout.new.ins.items ≡ layout.old.ins.items ++ input_nets number (shown_driver design.now driver.now)) }
-    ensures places { OnOk result (layout.new.places.items ≡ layout.old.places.items ++ input_places (shown_driver design.now driver.now)) }
-    ensures held { OnOk result (layout.new.held.items ≡ layout.old.held.items ++ map latch_out (latches_of number (shown_driver design.now driver.now))) }
+        ++ stem_covers stems.now number (unbuffered_driver design.now driver.now)) }
+    ensures ins { OnOk result (layout.new.ins.items ≡ layout.old.ins.items ++ input_nets number (unbuffered_driver design.now driver.now)) }
+    ensures places { OnOk result (layout.new.places.items ≡ layout.old.places.items ++ input_places (unbuffered_driver design.now driver.now)) }
+    ensures held { OnOk result (layout.new.held.items ≡ layout.old.held.items ++ map latch_out (latches_of number (unbuffered_driver design.now driver.now))) }
     ensures taken { OnOk result (layout.new.taken.items ≡ layout.old.taken.items
-        ++ map (latch_stem stems.now) (latches_of number (shown_driver design.now driver.now))) }
-    ensures first { OnOk result (layout.new.first.items ≡ layout.old.first.items ++ map latch_init (latches_of number (shown_driver design.now driver.now))) }
+        ++ map (latch_stem stems.now) (latches_of number (unbuffered_driver design.now driver.now))) }
+    ensures first { OnOk result (layout.new.first.items ≡ layout.old.first.items ++ map latch_init (latches_of number (unbuffered_driver design.now driver.now))) }
 {
     match driver {
         ColumnDriver::Input(place) => {
@@ -145,11 +144,13 @@ fn push_driver(
             cell,
             inputs,
         } => {
-            write_stems(stems, inputs.as_slice(), &mut scratch.reads)?;
-            let cover = cover_at(design, *model, *cell).unwrap_or(&scratch.none);
-            layout
-                .program
-                .push(scratch.reads.as_slice(), number, cover)?;
+            if !is_buffer(design, *model, *cell) {
+                write_stems(stems, inputs.as_slice(), &mut scratch.reads)?;
+                let cover = cover_at(design, *model, *cell).unwrap_or(&scratch.none);
+                layout
+                    .program
+                    .push(scratch.reads.as_slice(), number, cover)?;
+            }
         }
         ColumnDriver::Connection(_) => {}
     }

@@ -113,7 +113,7 @@ pub fn simulate<R: RowSource>(
     ensures { IfOk result (λ out. (b : Table ℕ) → IsStrict (driver_list (map (shown_driver design.now) drivers.now)) (R.rows rows.now) b
         → out.rows ≡ rows_at outs.now b (length (R.rows rows.now))) }
 {
-    let found = stems_of(alloc, drivers, order)?;
+    let found = stems_of(alloc, design, drivers, order)?;
     let stems = found.as_slice();
     let layout = lay_out(alloc, design, drivers, order, stems)?;
     run_stems(alloc, &layout, stems, outs, rows)

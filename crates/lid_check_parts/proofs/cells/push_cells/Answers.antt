@@ -1,33 +1,70 @@
-use Rattle.std.proofs.Common.{slice_index_or, ap, arith}
-use Rattle.std.proofs.lemmas.List.{length-map}
+use Rattle.std.proofs.Common.{◌≡◌, ◌+◌, ℕ, [], List, length, map, take, slice_index_or, sym, ◌∙◌, ap, subst, arith}
+use Rattle.std.proofs.lemmas.List.{length-map, length-set}
+use Rattle.lid_base.specs.Lists.{Among}
 use Rattle.lid_base.proofs.Lists.{among_at}
 use Rattle.lid_check_elab.specs.declared.driver.ColumnDriver.{ColumnDriver}
 use Rattle.lid_check_elab.specs.Elaborations.{driver_reads, shown_driver}
 use Rattle.lid_check_parts.specs.Parts.{driver_at}
-use Rattle.lid_check_parts.specs.Inner.{latches_of, driver_covers}
+use Rattle.lid_check_parts.specs.Inner.{inner_driver, inner_drivers, latches_of, driver_covers}
 use Rattle.lid_check_parts.proofs.Lists.{pushed_more}
-use Rattle.lid_check_parts.proofs.Nets.{read_at}
+use Rattle.lid_check_parts.proofs.Looping.{long, at}
+use Rattle.lid_check_parts.proofs.Rules.{reads_here}
+use Rattle.lid_check_parts.proofs.Taking.{left_on, left_here}
 use Rattle.lid_check_parts.proofs.cells.push_cells.Goals as goal
 
-pub bounds-inner-net : goal.bounds-inner-net
-bounds-inner-net c =
-    let h = c.requires.within _ (among_at c.args.order.now c.loop-net.net-index 0 c.loop-net-test.true) in
-    let long = length-map c.args.inner.now driver_reads in
+pub take_reads-ins-requires : goal.take_reads-ins-requires
+take_reads-ins-requires c =
+    let source = c.args.source.now in
+    let inner = inner_drivers source.drivers.now source.part in
+    let within = c.requires.order.within _ (among_at c.args.order.now c.loop-net.net-index 0 c.loop-net-test.true) in
+    let given = ap length c.requires.reads in
+    let kept = c.loop-net.invariant.long in
     omega arith
 
-pub loop-net-preserved : goal.loop-net-preserved
-loop-net-preserved c =
+pub push_cell-requires-clause-there : goal.push_cell-requires-clause-there
+push_cell-requires-clause-there c =
+    let source = c.args.source.now in
+    let inner = inner_drivers source.drivers.now source.part in
+    let within = c.requires.order.within _ (among_at c.args.order.now c.loop-net.net-index 0 c.loop-net-test.true) in
+    let graph = length-map inner driver_reads in
+    let nets = long source.drivers.now source.part c.requires.part in
+    omega arith
+
+pub push_cell-requires-clause-ins : goal.push_cell-requires-clause-ins
+push_cell-requires-clause-ins c =
+    let source = c.args.source.now in
     let order = c.args.order.now in
-    let inner = c.args.inner.now in
-    let d = c.args.design.now in
+    let inner = inner_drivers source.drivers.now source.part in
     let i = c.loop-net.net-index in
     let h = c.loop-net-test.true in
     let net = slice_index_or order i 0 in
-    let within = c.requires.within net (among_at order i 0 h) in
-    let long = length-map inner driver_reads in
-    let same = read_at inner net c.index-inner-net.result (omega arith) c.index-inner-net.is in
+    let within = c.requires.order.within net (among_at order i 0 h) in
+    let graph = length-map inner driver_reads in
+    let nets = long source.drivers.now source.part c.requires.part in
+    c.take_reads-ins.ensures.taken
+    ∙ left_here (map driver_reads inner) order c.requires.order i h _ _ c.loop-net.invariant.left
+    ∙ ap (λ (rows : List (List ℕ)). slice_index_or rows net []) c.requires.reads
+    ∙ reads_here inner net
+    ∙ ap driver_reads (at source.drivers.now source.part c.requires.part net (omega arith))
+
+pub loop-net-preserved : goal.loop-net-preserved
+loop-net-preserved c =
+    let source = c.args.source.now in
+    let d = source.design.now in
+    let order = c.args.order.now in
+    let inner = inner_drivers source.drivers.now source.part in
+    let i = c.loop-net.net-index in
+    let h = c.loop-net-test.true in
+    let net = slice_index_or order i 0 in
+    let within = c.requires.order.within net (among_at order i 0 h) in
+    let graph = length-map inner driver_reads in
+    let nets = long source.drivers.now source.part c.requires.part in
+    let same : inner_driver source.drivers.now source.part net ≡ driver_at inner net = sym (at source.drivers.now source.part c.requires.part net (omega arith)) in
     let new = c.in_ok-push_cell.ensures in
     record {
+      long = ap length c.take_reads-ins.ensures.left ∙ length-set c.loop-net.reads net [] ∙ c.loop-net.invariant.long;
+      left = subst (λ (rows : List (List ℕ)). (k : ℕ) → (Among k (take (i + 1) order) → ⊥) → slice_index_or rows k [] ≡ slice_index_or c.args.reads.now k []) (sym c.take_reads-ins.ensures.left)
+          (left_on (map driver_reads inner) order c.requires.order i h c.args.reads.now c.loop-net.reads c.loop-net.invariant.left);
       latches = pushed_more (λ k. latches_of k (shown_driver d (driver_at inner k))) order i h _ _ _ _ (ap (λ (s : ColumnDriver). latches_of net (shown_driver d s)) same) c.loop-net.invariant.latches new.latches;
       covers = pushed_more (λ k. driver_covers k (shown_driver d (driver_at inner k))) order i h _ _ _ _ (ap (λ (s : ColumnDriver). driver_covers net (shown_driver d s)) same) c.loop-net.invariant.covers new.covers;
     }

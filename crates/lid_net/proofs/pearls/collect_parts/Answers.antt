@@ -12,4 +12,4 @@ loop-pearl-preserved c = record {
 }
 
 pub returns : goal.returns
-returns c = record { long = c.loop-pearl.invariant.long ∙ (let a = c.loop-pearl-test.false in let b = c.loop-pearl.auto.pearl-end in let e = c.pearls-pearl-end.ensures in omega arith); few = few_pearls c.args.checked.now c.design.ensures.accepted.models; each = c.loop-pearl.invariant.each }
+returns c = record { long = c.loop-pearl.invariant.long ∙ (let a = c.loop-pearl-test.false in let b = c.loop-pearl.auto.pearl-end in let e = c.pearls-count.ensures in omega arith); few = few_pearls c.args.checked.now c.design.ensures.accepted.models; each = c.loop-pearl.invariant.each }

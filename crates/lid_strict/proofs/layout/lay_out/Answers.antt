@@ -3,9 +3,8 @@ use Rattle.std.specs.List.{AllByRecursion}
 use Rattle.lid_base.proofs.Lists.{all_at}
 use Rattle.lid_design.specs.Feeds.{read_now}
 use Rattle.lid_design.specs.Flat.{latch_out, latch_init}
-use Rattle.lid_check_elab.specs.Elaborations.{shown_driver}
 use Rattle.lid_check_parts.specs.Parts.{HasCover}
-use Rattle.lid_strict.specs.Stems.{stem_at, stem_covers, latch_stem}
+use Rattle.lid_strict.specs.Stems.{stem_at, stem_covers, latch_stem, unbuffered_driver}
 use Rattle.lid_strict.specs.Layouts.{input_nets, input_places}
 use Rattle.lid_strict.proofs.Layouts.{laid_next, latches_next, number_below, driver_there, driver_same, reads_within}
 use Rattle.lid_strict.proofs.layout.lay_out.Goals as goal
@@ -21,7 +20,7 @@ push_driver-requires-clause-number c =
 
 pub push_driver-requires-clause-reads : goal.push_driver-requires-clause-reads
 push_driver-requires-clause-reads c =
-    subst (λ (n : ℕ). AllByRecursion (λ a. a < n) (map (stem_at c.args.stems.now) (read_now (shown_driver c.args.design.now c.index-drivers-number.result)))) (sym c.loop-number.invariant.2)
+    subst (λ (n : ℕ). AllByRecursion (λ a. a < n) (map (stem_at c.args.stems.now) (read_now (unbuffered_driver c.args.design.now c.index-drivers-number.result)))) (sym c.loop-number.invariant.2)
     (reads_within c.args.design.now c.args.drivers.now c.args.order.now c.requires.ordered c.loop-number.number-index c.loop-number-test.true c.index-drivers-number.result c.index-drivers-number.is c.args.stems.now c.requires.stems)
 
 pub push_driver-requires-clause-cover : goal.push_driver-requires-clause-cover
@@ -33,7 +32,7 @@ pub loop-number-preserved : goal.loop-number-preserved
 loop-number-preserved c =
     let i = c.loop-number.number-index in
     let h = c.loop-number-test.true in
-    let shown = shown_driver c.args.design.now in
+    let shown = unbuffered_driver c.args.design.now in
     let s = shown c.index-drivers-number.result in
     let network = map shown c.args.drivers.now in
     let same = driver_same c.args.design.now c.args.drivers.now c.args.order.now c.requires.ordered i h c.index-drivers-number.result c.index-drivers-number.is in

@@ -4,8 +4,7 @@ use Rattle.lid_design.specs.declared.Flat.{Flat}
 use Rattle.lid_design.specs.Flat.{latch_init, IsFlat}
 use Rattle.lid_strict_engine.specs.Programs.{program_covers}
 use Rattle.lid_pearl.specs.Pearls.{IsReordered}
-use Rattle.lid_pearl.specs.Inside.{ArePearlFields}
-use Rattle.lid_pearl.proofs.Copying.{kept_by_equals}
+use Rattle.lid_pearl.proofs.Copying.{ordered_by_equals}
 use Rattle.lid_pearl.proofs.Reordering.{reordered_is, reordered_flat, flat_of}
 use Rattle.lid_pearl.proofs.pearl.Pearl.make.Goals as goal
 
@@ -23,20 +22,17 @@ returns-clause-rules c =
 
 pub invariant_of-result : goal.invariant_of-result
 invariant_of-result c =
-    let f = c.args.flat.now in
     let shape = c.in_ok-shape.shape in
-    let early = c.in_ok-plan.plan.early in
-    let late = c.in_ok-plan.plan.late in
-    let row = c.in_ok-row.row in
     let one = c.in_ok-shape.ensures in
     let two = c.in_ok-plan.ensures in
-    let three = c.in_ok-row.ensures in
-    let kept : ArePearlFields f.nets f.ins f.outs f.latches early late row.state.items row.bits.items = record {
-      early_is = two.is.0;
-      late_is = two.is.1;
-      ordered = two.ordered;
-      state_size = ap length three.state ∙ length-map f.latches latch_init;
-      size = three.size;
-      settled = three.settled;
-    } in
-    (one.sides, kept_by_equals f.nets f.ins f.outs f.latches early late early late row.state.items row.bits.items two.is.0 two.is.1 refl refl refl refl shape.nets shape.ins.items shape.outs.items shape.latches.all.items row.state.items row.bits.items one.nets (one.ins ∙ c.as_slice.ensures) (one.outs ∙ c.as_slice-2.ensures) (one.latches ∙ c.as_slice-3.ensures) refl refl kept)
+    let three = c.in_ok-row.ensures in (
+      one.sides,
+      record {
+        early_is = two.is.0;
+        late_is = two.is.1;
+        ordered = ordered_by_equals _ _ _ shape.nets _ _ shape.ins.items shape.outs.items _ shape.latches.all.items one.nets (one.ins ∙ c.as_slice.ensures) (one.outs ∙ c.as_slice-2.ensures) (one.latches ∙ c.as_slice-3.ensures) two.ordered;
+        state_size = ap length three.state ∙ length-map shape.latches.all.items latch_init;
+        size = three.size;
+        settled = three.settled;
+      },
+    )
