@@ -53,10 +53,10 @@ impl<'r> FlatRows<'r> {
         ensures { IfOk result (λ x. (l : Life) → IsFreeLife l rows.now.bits → l.setup.system ≡ placed.now.system
             → l.setup.placement ≡ placed.now.placement → Feeds l 0 x) }
     {
-        FlatRows::start_over(alloc, placed, InputRows::Held(rows))
+        FlatRows::start_over(alloc, placed, InputRows::Listed(rows))
     }
 
-    /// Starts a run over rows that are held or packed, as `start` does.
+    /// Starts a run over rows that are listed or packed, as `start` does.
     ///
     /// # Errors
     /// Want of memory.

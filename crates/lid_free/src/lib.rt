@@ -11,4 +11,4 @@ mod setting;
 pub use course::StrictCourse;
 pub use lid_free_crew::{Worker, work};
 pub use run::{FreeEnd, free_run, free_run_over, run_out};
-pub use setting::{Setting, set_out, set_out_over};
+pub use setting::{Setting, set_out};

@@ -14,7 +14,7 @@ ghost use Rattle.lid_free.specs.Endings.{IsEnding};
 
 use crate::ending::settle;
 use crate::gathering::{Left, gather, note_fired, note_passed, run_all};
-use crate::setting::{Room, Setting, set_out_over};
+use crate::setting::{Room, Setting, set_out};
 use lid_base::{Gate, Items, Tally};
 use lid_stations::Placement;
 use lid_system::System;
@@ -126,11 +126,11 @@ pub fn free_run<R: Threads + Sync, G: Gate>(
     requires rounds { rounds ≤ 1000000 }
     ensures { IfOk result (λ end. (m : Setup) → IsSetupOf m system.now placement.now rows.now.bits → IsFreeEnd m workers rounds end) }
 {
-    let rows = InputRows::Held(rows);
+    let rows = InputRows::Listed(rows);
     free_run_over(rt, alloc, system, placement, rows, workers, rounds, gate)
 }
 
-/// Makes a free run over input rows that are held or packed, as [`free_run`] does.
+/// Makes a free run over input rows that are listed or packed, as [`free_run`] does.
 ///
 /// # Errors
 /// Memory is wanting.
@@ -152,6 +152,6 @@ pub fn free_run_over<R: Threads + Sync, G: Gate>(
     requires rounds { rounds ≤ 1000000 }
     ensures { IfOk result (λ end. (m : Setup) → IsSetupOf m system.now placement.now (input_of rows.entry) → IsFreeEnd m workers rounds end) }
 {
-    let setting = set_out_over(alloc, system, placement, rows, workers)?;
+    let setting = set_out(alloc, system, placement, rows, workers)?;
     Ok(run_out(rt, setting, rounds, gate))
 }

@@ -21,9 +21,8 @@ use lid_shell::Actor;
 use lid_station::PlainBoard;
 use lid_stations::{Placed, Placement, marking};
 use lid_system::System;
-use lid_texts::Rows;
 use lid_texts_packed::InputRows;
-use lid_walk::{actors_over, firsts_over};
+use lid_walk::{all_actors, first_tokens};
 use std::alloc::{AllocError, Global};
 
 /// The shared board with the hand that keeps its ends, and the plain board that it ends as.
@@ -45,7 +44,7 @@ fn start_boards(
     ensures { IfOk result (λ boards. (m : Setup) → IsSetupOf m placed.now.system placed.now.placement (input_of rows.entry) → AreBoards m boards) }
 {
     runs_go_by_rules();
-    let firsts = firsts_over(alloc, placed, rows)?;
+    let firsts = first_tokens(alloc, placed, rows)?;
     let course = StrictCourse {
         system: placed.system,
         placement: placed.placement,
@@ -161,7 +160,7 @@ fn start_crew<'r>(
         owners.as_slice(),
         workers,
     )?;
-    let dealt = actors_over(alloc, placed, rows)?;
+    let dealt = all_actors(alloc, placed, rows)?;
     let actors = dealt.len();
     deal(dealt, hired.as_mut_slice())?;
     Ok(Crew {
@@ -188,28 +187,6 @@ pub struct Setting<'r> {
 /// # Errors
 /// Memory is wanting.
 pub fn set_out<'r>(
-    alloc: Global,
-    system: &System,
-    placement: &Placement,
-    rows: &'r Rows,
-    workers: u32,
-) -> Result<Setting<'r>, AllocError>
-    requires system { IsWellFormed system.now }
-    requires fits { Fits system.now placement.now }
-    requires few { length rows.now.bits ≤ 1000000 }
-    requires wide { AllByRecursion (IsInputRow system.now) rows.now.bits }
-    requires some { 0 < workers }
-    ensures setup { OnOk result ((m : Setup) × IsSetupOf m system.now placement.now rows.now.bits) }
-    ensures set { IfOk result (λ setting. (m : Setup) → IsSetupOf m system.now placement.now rows.now.bits → IsSetOut m workers setting) }
-{
-    set_out_over(alloc, system, placement, InputRows::Held(rows), workers)
-}
-
-/// Sets out a free run over input rows that are held or packed, as [`set_out`] does.
-///
-/// # Errors
-/// Memory is wanting.
-pub fn set_out_over<'r>(
     alloc: Global,
     system: &System,
     placement: &Placement,

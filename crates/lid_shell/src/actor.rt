@@ -57,10 +57,10 @@ impl<'r> Actor<'r> {
         ensures { IfOk result (λ a. (m : Setup) → IsSetup m → m.system ≡ system.now → m.input ≡ rows.now.bits → outs_of (plan m) 0 ≡ outs.now
             → IsActor m 0 (record { fired = 0; position = 0 }) a) }
     {
-        Actor::source_over(alloc, system, InputRows::Held(rows), outs)
+        Actor::source_over(alloc, system, InputRows::Listed(rows), outs)
     }
 
-    /// The source of a system over input rows that are held or packed, with these stations as for `source`.
+    /// The source of a system over input rows that are listed or packed, with these stations as for `source`.
     ///
     /// # Errors
     /// Memory is wanting.

@@ -11,7 +11,7 @@ use std::alloc::{AllocError, Global};
 #[derive(Clone, Copy)]
 pub enum InputRows<'r> {
     /// Each is a list of its own.
-    Held(&'r Rows),
+    Listed(&'r Rows),
     /// They are packed.
     Packed(&'r PackedRows),
 }
@@ -22,7 +22,7 @@ impl InputRows<'_> {
         ensures { result ≡ length (input_of self.now) }
     {
         match self {
-            InputRows::Held(rows) => rows.bits.len(),
+            InputRows::Listed(rows) => rows.bits.len(),
             InputRows::Packed(rows) => rows.len(),
         }
     }
@@ -33,7 +33,7 @@ impl InputRows<'_> {
         ensures { result ≡ length (slice_index_or (input_of self.now) row []) }
     {
         match self {
-            InputRows::Held(rows) => rows.bits.as_slice()[row].len(),
+            InputRows::Listed(rows) => rows.bits.as_slice()[row].len(),
             InputRows::Packed(rows) => rows.width(),
         }
     }
@@ -45,8 +45,9 @@ impl InputRows<'_> {
         ensures { into.new ≡ slice_index_or (input_of self.now) row [] }
     {
         match self {
-            InputRows::Held(rows) => into.copy_from_slice(rows.bits.as_slice()[row].as_slice()),
+            InputRows::Listed(rows) => into.copy_from_slice(rows.bits.as_slice()[row].as_slice()),
             InputRows::Packed(rows) => {
+                // Its clause says how wide each row is, which `read` asks for.
                 rows.width();
                 rows.read(row, into)
             }

@@ -11,31 +11,15 @@ use crate::movers::push_movers;
 use crate::nodes::push_nodes;
 use lid_shell::Actor;
 use lid_stations::Placed;
-use lid_texts::Rows;
 use lid_texts_packed::InputRows;
 use std::alloc::{AllocError, Global};
 
-/// All actors of a run, which have not fired, in the order of their numbers: the source, the shells, the sink, and
-/// then the movers in the order of the stations that they drain.
+/// All actors of a run over input rows, listed or packed, which have not fired, in the order of their numbers: the
+/// source, the shells, the sink, and then the movers in the order of the stations that they drain.
 ///
 /// # Errors
 /// Memory is wanting.
 pub fn all_actors<'r>(
-    alloc: Global,
-    placed: &Placed<'_>,
-    rows: &'r Rows,
-) -> Result<Vec<Actor<'r>>, AllocError>
-    ensures { IfOk result (λ actors. (m : Setup) → IsSetupOf m placed.now.system placed.now.placement rows.now.bits
-        → AreActors m begun actors.items) }
-{
-    actors_over(alloc, placed, InputRows::Held(rows))
-}
-
-/// The same of a run over rows that are held or packed.
-///
-/// # Errors
-/// Memory is wanting.
-pub fn actors_over<'r>(
     alloc: Global,
     placed: &Placed<'_>,
     rows: InputRows<'r>,

@@ -15,7 +15,6 @@ use crate::tokens::node_tokens;
 use lid_shell::actors_go_by_rules;
 use lid_stations::Placed;
 use lid_system::systems_have_one_table;
-use lid_texts::Rows;
 use lid_texts_packed::InputRows;
 use std::alloc::{AllocError, Global};
 
@@ -122,25 +121,6 @@ fn tokens_at_start(
 /// # Errors
 /// Memory is wanting.
 pub fn first_tokens(
-    alloc: Global,
-    placed: &Placed<'_>,
-    rows: &Rows,
-) -> Result<Vec<Option<u32>>, AllocError>
-    requires few { length rows.now.bits ≤ 1000000 }
-    requires wide { AllByRecursion (IsInputRow placed.now.system) rows.now.bits }
-    ensures are { IfOk result (λ firsts. (m : Setup) → IsSetupOf m placed.now.system placed.now.placement rows.now.bits
-        → firsts.items ≡ first_tokens (plan m)) }
-    ensures many { IfOk result (λ firsts. length firsts.items ≡ length placed.now.placement.caps) }
-    ensures small { IfOk result (λ firsts. All (λ first. IfSome first (λ token. token < 2 ^ 31)) firsts.items) }
-{
-    firsts_over(alloc, placed, InputRows::Held(rows))
-}
-
-/// The same of a run over rows that are held or packed.
-///
-/// # Errors
-/// Memory is wanting.
-pub fn firsts_over(
     alloc: Global,
     placed: &Placed<'_>,
     rows: InputRows<'_>,

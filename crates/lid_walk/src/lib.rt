@@ -11,7 +11,7 @@ mod starting;
 mod tokens;
 mod walk;
 
-pub use actors::{actors_over, all_actors};
-pub use firsts::{first_tokens, firsts_over};
+pub use actors::all_actors;
+pub use firsts::first_tokens;
 pub use laws::{stations_hold_prefixes, sweeps_settle_walks};
 pub use walk::Walk;

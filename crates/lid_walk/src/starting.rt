@@ -8,7 +8,7 @@ ghost use Rattle.lid_texts_packed.specs.Input.{input_of};
 ghost use Rattle.lid_walk.specs.Setups.{IsSetupOf};
 ghost use Rattle.lid_walk.specs.Walks.{IsBoard};
 
-use crate::firsts::firsts_over;
+use crate::firsts::first_tokens;
 use lid_station::PlainBoard;
 use lid_stations::Placed;
 use lid_texts_packed::InputRows;
@@ -25,6 +25,6 @@ pub(crate) fn board_of(
     ensures { IfOk result (λ board. (m : Setup) → IsSetupOf m placed.now.system placed.now.placement (input_of rows.entry)
         → IsBoard m begun board.pairs.items) }
 {
-    let firsts = firsts_over(alloc, placed, rows)?;
+    let firsts = first_tokens(alloc, placed, rows)?;
     PlainBoard::start(alloc, firsts.as_slice(), placed.placement.caps.as_slice())
 }

@@ -15,7 +15,7 @@ ghost use Rattle.lid_walk.specs.Setups.{IsSetupOf};
 ghost use Rattle.lid_walk.specs.Actors.{AreActors};
 ghost use Rattle.lid_walk.specs.Walks.{IsBoard, Walks, IsSetupWalk, HasActor, HasActorAtRest, IsAtRest, firings_between};
 
-use crate::actors::actors_over;
+use crate::actors::all_actors;
 use crate::starting::board_of;
 use lid_base::{Answer, Items};
 use lid_shell::{Actor, TurnEnd};
@@ -59,10 +59,10 @@ impl<'r> Walk<'r> {
         requires wide { AllByRecursion (IsInputRow system.now) rows.now.bits }
         ensures { IfOk result (λ w. (m : Setup) → IsSetupOf m system.now placement.now rows.now.bits → Walks m begun w) }
     {
-        Walk::start_over(alloc, system, placement, InputRows::Held(rows))
+        Walk::start_over(alloc, system, placement, InputRows::Listed(rows))
     }
 
-    /// Starts a run over input rows that are held or packed, as `start` does.
+    /// Starts a run over input rows that are listed or packed, as `start` does.
     ///
     /// # Errors
     /// Memory is wanting.
@@ -81,7 +81,7 @@ impl<'r> Walk<'r> {
         systems_have_one_table();
         let placed = Placed { system, placement };
         let board = board_of(alloc, &placed, rows)?;
-        let actors = actors_over(alloc, &placed, rows)?;
+        let actors = all_actors(alloc, &placed, rows)?;
         Ok(Walk::adopt(board, actors))
     }
 

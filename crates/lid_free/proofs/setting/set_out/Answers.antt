@@ -1,6 +1,6 @@
 use Rattle.lid_texts_packed.specs.Input.{input_of}
 use Rattle.lid_walk.proofs.Opening.{setup_of}
-use Rattle.lid_free.proofs.setting.set_out_over.Goals as goal
+use Rattle.lid_free.proofs.setting.set_out.Goals as goal
 
 pub returns-clause-setup : goal.returns-clause-setup
 returns-clause-setup c =

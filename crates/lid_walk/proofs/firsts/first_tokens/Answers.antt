@@ -12,7 +12,7 @@ use Rattle.lid_texts_packed.specs.Input.{input_of}
 use Rattle.lid_walk.specs.Setups.{IsSetupOf}
 use Rattle.lid_walk.specs.Firsts.{first_tokens}
 use Rattle.lid_walk.proofs.Opening.{known_firsts}
-use Rattle.lid_walk.proofs.firsts.firsts_over.Goals as goal
+use Rattle.lid_walk.proofs.firsts.first_tokens.Goals as goal
 
 -- what is known of the tokens that are answered
 known : {E : Type 0} → (q : Placing) (rows : List (List Bool)) → IsPlaced q.system q.placement → length rows ≤ 1000000 → AllByRecursion (IsInputRow q.system) rows → HasTable (system_drivers q.system)
