@@ -12,7 +12,7 @@ use lid_texts_packed::InputRows;
 pub(crate) struct Input<'r> {
     pub(crate) node: SourceNode,
     pub(crate) rows: InputRows<'r>,
-    /// The row that was put last.
+    /// Room for the bits of the row that is put.
     pub(crate) row: Vec<bool>,
 }
 

@@ -14,6 +14,7 @@ use Rattle.lid_strict_widths.specs.Groups.{IsByWidth}
 use Rattle.lid_strict.specs.Networks.{driver_at, rows_at}
 use Rattle.lid_strict.specs.Stems.{stem_covers, latch_stem}
 use Rattle.lid_strict.specs.declared.layout.Layout.{Layout}
+use Rattle.lid_strict.specs.declared.simulation.Runnable.{Runnable}
 
 -- number k where it is an input, and the place of the input
 abbrev pub input_nets : ℕ → Driver ℕ → List ℕ
@@ -97,3 +98,20 @@ FitsTable p rows b = (t : ℕ) → t < length rows → FitsRow p (slice_index_or
 -- what latches hold and the rows so far are those of each table that fits
 abbrev pub IsStrictRun : Layout → List ℕ → List (List Bool) → ℕ → List Bool → List (List Bool) → Type 0
 IsStrictRun p outs rows t state out = (b : Table ℕ) → FitsTable p rows b → (state ≡ held_bits p.first.items p.taken.items b t) × (out ≡ rows_at outs b t)
+
+-- the rows so far, which something has
+pub record HasRun (p : Layout) (outs : List ℕ) (rows : List (List Bool)) (t : ℕ) (state : List Bool) (has : List (List Bool) → Type 0) : Type 0 where
+  pub given : List (List Bool)
+  pub run : IsStrictRun p outs rows t state given
+  pub held : has given
+
+-- something has rows that are those of each table that fits
+pub record HasRows (p : Layout) (outs : List ℕ) (rows : List (List Bool)) (has : List (List Bool) → Type 0) : Type 0 where
+  pub given : List (List Bool)
+  pub each : (b : Table ℕ) → FitsTable p rows b → given ≡ rows_at outs b (length rows)
+  pub held : has given
+
+-- a table fits, and the rows that it gives are these
+pub record Gives (ready : Runnable) (rows : List (List Bool)) (b : Table ℕ) (out : List (List Bool)) : Type 0 where
+  pub fits : FitsTable ready.layout rows b
+  pub same : rows_at ready.outs.items b (length rows) ≡ out

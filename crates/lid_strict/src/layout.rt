@@ -1,5 +1,5 @@
-//! Networks laid out for running: inputs, latches, and a program of all that is read in the same row, in
-//! an order in which each number stands after all that it reads.
+//! Networks laid out for running: inputs, latches, and a program of the covers, in an order in which each stands
+//! after all that it reads in the same row.
 
 ghost use Rattle.std.specs.Prelude.{◌≡◌, ◌<◌, ◌++◌, [], length, map, IfOk, OnOk};
 ghost use Rattle.std.specs.List.{AllByRecursion};

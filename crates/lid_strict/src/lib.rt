@@ -1,4 +1,4 @@
-//! The strict outputs of accepted designs, by a simulation of all columns row by row.
+//! The strict outputs of accepted designs, by a simulation of covers and latches row by row.
 #![tactic(auto)]
 
 mod laws;
@@ -6,9 +6,10 @@ mod layout;
 mod simulation;
 mod source;
 mod stems;
+mod store;
 mod whole;
 
 pub use laws::accepted_have_one_table;
-pub use simulation::simulate;
 pub use source::RowSource;
-pub use whole::{strict, strict_packed};
+pub use store::RowStore;
+pub use whole::{strict, strict_rows_text};

@@ -9,17 +9,16 @@ ghost use Rattle.lid_strict_engine.specs.Programs.{IsProgram};
 ghost use Rattle.lid_strict_engine.specs.Rows.{bit_at};
 ghost use Rattle.lid_check_parts.specs.Parts.{HasCover};
 ghost use Rattle.lid_strict.specs.Networks.{driver_list, reads_of, AreTakenBelow, rows_at};
-ghost use Rattle.lid_strict.specs.Stems.{stem_at};
-ghost use Rattle.lid_strict.specs.Layouts.{IsRunnable, IsSettled, IsEngineOf, FitsRow, FitsTable};
+ghost use Rattle.lid_strict.specs.Layouts.{IsRunnable, IsSettled, IsEngineOf, FitsRow, HasRows, Gives};
 
 use crate::layout::{Layout, lay_out};
 use crate::source::RowSource;
+use crate::store::RowStore;
 use crate::stems::{stems_of, write_stems};
 use lid_check_elab::ColumnDriver;
 use lid_design::Design;
 use lid_strict_engine::{copy_of, put_bits, take_bits};
 use lid_strict_widths::{ByWidth, by_level, by_width, settle_by_width};
-use lid_texts_packed::PackedRows;
 use std::alloc::{AllocError, Global};
 
 /// The bit of a number, and 0 where there is none.
@@ -87,8 +86,43 @@ fn run_row(
     take_bits(bits, layout.taken.as_slice(), state);
 }
 
-/// What is run: a network that is laid out, its program as it is run, the numbers whose bits are asked for, and the rows.
+/// What is run: a network that is laid out, and the numbers whose bits are asked for.
 #[derive(Drop)]
+pub(crate) struct Runnable {
+    pub(crate) layout: Layout,
+    pub(crate) outs: Vec<u32>,
+}
+
+/// Makes a network ready to run: lays it out by stems, and asks for the stems of some numbers.
+pub(crate) fn make_ready(
+    alloc: Global,
+    design: &Design,
+    drivers: &[ColumnDriver],
+    order: &[u32],
+    outs: &[u32],
+) -> Result<Runnable, AllocError>
+    requires ordered { IsOrder (reads_of (map (shown_driver design.now) drivers.now)) order.now }
+    requires covers { AllByRecursion (HasCover design.now) drivers.now }
+    requires taken { AreTakenBelow (map (shown_driver design.now) drivers.now) }
+    requires outs { AllByRecursion (λ k. k < length drivers.now) outs.now }
+    ensures runnable { IfOk result (λ ready. IsRunnable ready.layout) }
+    ensures outs { IfOk result (λ ready. AllByRecursion (IsSettled ready.layout) ready.outs.items) }
+    ensures many { IfOk result (λ ready. length ready.outs.items ≡ length outs.now) }
+    ensures runs { IfOk result (λ ready. (rows : List (List Bool)) (b : Table ℕ) → IsStrict (driver_list (map (shown_driver design.now) drivers.now)) rows b
+        → Gives ready rows b (rows_at outs.now b (length rows))) }
+{
+    let found = stems_of(alloc, design, drivers, order)?;
+    let stems = found.as_slice();
+    let layout = lay_out(alloc, design, drivers, order, stems)?;
+    let mut asked = Vec::new(alloc);
+    write_stems(stems, outs, &mut asked)?;
+    Ok(Runnable {
+        layout,
+        outs: asked,
+    })
+}
+
+/// What a run goes by.
 struct Simulation<'r, R> {
     layout: &'r Layout,
     engine: &'r ByWidth,
@@ -96,83 +130,42 @@ struct Simulation<'r, R> {
     rows: &'r R,
 }
 
-/// Runs a network row by row, in an order in which each number stands after all that it reads, and
-/// answers the bits of some numbers in each row.
-pub fn simulate<R: RowSource>(
+/// Runs what is laid out row by row, and puts the bits of some numbers in each row where none were put before.
+pub(crate) fn run_ready<R: RowSource, W: RowStore>(
     alloc: Global,
-    design: &Design,
-    drivers: &[ColumnDriver],
-    order: &[u32],
-    outs: &[u32],
+    ready: &Runnable,
     rows: &R,
-) -> Result<PackedRows, AllocError>
-    requires ordered { IsOrder (reads_of (map (shown_driver design.now) drivers.now)) order.now }
-    requires covers { AllByRecursion (HasCover design.now) drivers.now }
-    requires taken { AreTakenBelow (map (shown_driver design.now) drivers.now) }
-    requires outs { AllByRecursion (λ k. k < length drivers.now) outs.now }
-    ensures { IfOk result (λ out. (b : Table ℕ) → IsStrict (driver_list (map (shown_driver design.now) drivers.now)) (R.rows rows.now) b
-        → out.rows ≡ rows_at outs.now b (length (R.rows rows.now))) }
+    into: &mut W,
+) -> Result<(), AllocError>
+    requires runnable { IsRunnable ready.now.layout }
+    requires outs { AllByRecursion (IsSettled ready.now.layout) ready.now.outs.items }
+    requires width { W.width into.old ≡ length ready.now.outs.items }
+    requires none { W.has into.old [] }
+    ensures { OnOk result (HasRows ready.now.layout ready.now.outs.items (R.rows rows.now) (W.has into.new)) }
 {
-    let found = stems_of(alloc, design, drivers, order)?;
-    let stems = found.as_slice();
-    let layout = lay_out(alloc, design, drivers, order, stems)?;
-    run_stems(alloc, &layout, stems, outs, rows)
-}
-
-/// Runs what is laid out row by row, and answers the bits of the stems of some numbers in each row.
-fn run_stems<R: RowSource>(
-    alloc: Global,
-    layout: &Layout,
-    stems: &[u32],
-    outs: &[u32],
-    rows: &R,
-) -> Result<PackedRows, AllocError>
-    requires runnable { IsRunnable layout.now }
-    requires outs { AllByRecursion (IsSettled layout.now) (map (stem_at stems.now) outs.now) }
-    ensures { IfOk result (λ out. (b : Table ℕ) → FitsTable layout.now (R.rows rows.now) b
-        → out.rows ≡ rows_at (map (stem_at stems.now) outs.now) b (length (R.rows rows.now))) }
-{
-    let mut asked = Vec::new(alloc);
-    write_stems(stems, outs, &mut asked)?;
-    run_laid_out(alloc, layout, asked.as_slice(), rows)
-}
-
-/// Runs what is laid out row by row, and answers the bits of some numbers in each row.
-fn run_laid_out<R: RowSource>(
-    alloc: Global,
-    layout: &Layout,
-    outs: &[u32],
-    rows: &R,
-) -> Result<PackedRows, AllocError>
-    requires runnable { IsRunnable layout.now }
-    requires outs { AllByRecursion (IsSettled layout.now) outs.now }
-    ensures { IfOk result (λ out. (b : Table ℕ) → FitsTable layout.now (R.rows rows.now) b → out.rows ≡ rows_at outs.now b (length (R.rows rows.now))) }
-{
-    let engine = engine_of(layout)?;
+    let engine = engine_of(&ready.layout)?;
     let run = Simulation {
-        layout,
+        layout: &ready.layout,
         engine: &engine,
-        outs,
+        outs: ready.outs.as_slice(),
         rows,
     };
-    let mut results = PackedRows::new(alloc, outs.len());
-    run_layout(alloc, &run, &mut results)?;
-    Ok(results)
+    run_layout(alloc, &run, into)
 }
 
-/// Runs what is laid out row by row from the first bits of its latches on, and pushes the bits of some
-/// numbers in each row, where there are none yet.
-fn run_layout<R: RowSource>(
+/// Runs what is laid out row by row from the first bits of its latches on, and puts the bits of some numbers in each
+/// row, where none were put before.
+fn run_layout<R: RowSource, W: RowStore>(
     alloc: Global,
     run: &Simulation<'_, R>,
-    results: &mut PackedRows,
+    into: &mut W,
 ) -> Result<(), AllocError>
     requires runnable { IsRunnable run.now.layout.now }
     requires engine { IsEngineOf run.now.layout.now run.now.engine.now }
     requires outs { AllByRecursion (IsSettled run.now.layout.now) run.now.outs.now }
-    requires none { results.old ≡ record { width = length run.now.outs.now; rows = [] } }
-    ensures { OnOk result ((b : Table ℕ) → FitsTable run.now.layout.now (R.rows run.now.rows.now) b
-        → results.new.rows ≡ rows_at run.now.outs.now b (length (R.rows run.now.rows.now))) }
+    requires width { W.width into.old ≡ length run.now.outs.now }
+    requires none { W.has into.old [] }
+    ensures { OnOk result (HasRows run.now.layout.now run.now.outs.now (R.rows run.now.rows.now) (W.has into.new)) }
 {
     let mut state = copy_of(alloc, run.layout.first.as_slice())?;
     let mut inputs = Vec::from_elem(alloc, false, run.layout.places.len())?;
@@ -184,19 +177,18 @@ fn run_layout<R: RowSource>(
         inputs.as_mut_slice(),
         bits.as_mut_slice(),
         out.as_mut_slice(),
-        results,
+        into,
     )
 }
 
-/// Runs what is laid out row by row, and pushes the bits of some numbers in each row, where there are
-/// none yet.
-fn run_rows<R: RowSource>(
+/// Runs what is laid out row by row, and puts the bits of some numbers in each row, where none were put before.
+fn run_rows<R: RowSource, W: RowStore>(
     run: &Simulation<'_, R>,
     state: &mut [bool],
     inputs: &mut [bool],
     bits: &mut [bool],
     out: &mut [bool],
-    results: &mut PackedRows,
+    into: &mut W,
 ) -> Result<(), AllocError>
     requires runnable { IsRunnable run.now.layout.now }
     requires engine { IsEngineOf run.now.layout.now run.now.engine.now }
@@ -205,15 +197,15 @@ fn run_rows<R: RowSource>(
     requires inputs { length inputs.old ≡ length run.now.layout.now.places.items }
     requires bits { length bits.old ≡ run.now.layout.now.program.nets }
     requires out { length out.old ≡ length run.now.outs.now }
-    requires none { results.old ≡ record { width = length run.now.outs.now; rows = [] } }
-    ensures { OnOk result ((b : Table ℕ) → FitsTable run.now.layout.now (R.rows run.now.rows.now) b
-        → results.new.rows ≡ rows_at run.now.outs.now b (length (R.rows run.now.rows.now))) }
+    requires width { W.width into.old ≡ length run.now.outs.now }
+    requires none { W.has into.old [] }
+    ensures { OnOk result (HasRows run.now.layout.now run.now.outs.now (R.rows run.now.rows.now) (W.has into.new)) }
 {
     for t in 0..run.rows.count() {
         read_row(run.rows, t, run.layout.places.as_slice(), inputs);
         run_row(run.layout, run.engine, inputs, state, bits);
         pick(bits, run.outs, out);
-        results.push(out)?;
+        into.push(out)?;
     }
     Ok(())
 }

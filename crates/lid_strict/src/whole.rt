@@ -1,20 +1,22 @@
-ghost use Rattle.std.specs.Prelude.{◌≡◌, length, IfOk};
+ghost use Rattle.std.specs.Prelude.{◌≡◌, Bool, List, [], length, IfOk, OnOk};
 ghost use Rattle.std.specs.List.{AllByRecursion};
 ghost use Rattle.lid_design.specs.Columns.{root_outputs, IsStrictOutput};
 ghost use Rattle.lid_design.specs.WellFormed.{IsWellFormed};
+ghost use Rattle.lid_texts.specs.RowsText.{rows_text};
 ghost use Rattle.lid_check.specs.Networks.{IsNetwork};
 
-use crate::simulation::simulate;
+use crate::simulation::{make_ready, run_ready};
 use crate::source::RowSource;
+use crate::store::RowStore;
 use lid_base::{Items, copy_names};
 use lid_check::{Checked, Network};
 use lid_design::Design;
 use lid_texts::Rows;
-use lid_texts_packed::PackedRows;
+use lid_texts_packed::{PackedRows, RowsPrinter};
 use std::alloc::{AllocError, Global};
 
-/// The strict outputs of an accepted design for input rows, by a plain simulation of all its
-/// columns: the design has an order of them, and each row costs one pass over them.
+/// The strict outputs of an accepted design for input rows, by a simulation of its columns: each row costs one pass
+/// over its covers and latches, and connections and buffers take no step.
 ///
 /// # Errors
 /// Where there is no memory.
@@ -25,7 +27,9 @@ pub fn strict(alloc: Global, checked: &Checked, rows: &Rows) -> Result<Rows, All
     ensures width { IfOk result (λ out. AllByRecursion (λ row. length row ≡ length (root_outputs checked.now)) out.bits) }
 {
     let columns = copy_names(alloc, checked.outputs())?;
-    let packed = run(alloc, checked.design(), checked.network(), rows)?;
+    let network = checked.network();
+    let mut packed = PackedRows::new(alloc, network.outputs.len());
+    run(alloc, checked.design(), network, rows, &mut packed)?;
     let bits = packed.unpack(alloc)?;
     Ok(Rows {
         columns,
@@ -33,33 +37,41 @@ pub fn strict(alloc: Global, checked: &Checked, rows: &Rows) -> Result<Rows, All
     })
 }
 
-/// The strict outputs of an accepted design for input rows that are packed, packed too.
+/// The strict outputs of an accepted design for packed input rows, as a text.
 ///
 /// # Errors
 /// Where there is no memory.
-pub fn strict_packed(
+pub fn strict_rows_text(
     alloc: Global,
     checked: &Checked,
     rows: &PackedRows,
-) -> Result<PackedRows, AllocError>
-    ensures { IfOk result (λ out. IsStrictOutput checked.now rows.now.rows out.rows) }
+) -> Result<Vec<u8>, AllocError>
+    ensures { IfOk result (λ text. (outs : List (List Bool)) × IsStrictOutput checked.now rows.now.rows outs
+        × (text.items ≡ rows_text (root_outputs checked.now) outs)) }
 {
-    run(alloc, checked.design(), checked.network(), rows)
+    let network = checked.network();
+    let mut printer = RowsPrinter::new(alloc, checked.outputs(), network.outputs.len())?;
+    run(alloc, checked.design(), network, rows, &mut printer)?;
+    Ok(printer.into_text())
 }
 
-/// The strict outputs of a design for input rows, by its columns.
-fn run<R: RowSource>(
+/// Puts the strict outputs of a design for input rows, by its columns, where no rows were put before.
+fn run<R: RowSource, W: RowStore>(
     alloc: Global,
     design: &Design,
     network: &Network,
     rows: &R,
-) -> Result<PackedRows, AllocError>
+    into: &mut W,
+) -> Result<(), AllocError>
     requires formed { IsWellFormed design.now }
     requires network { IsNetwork design.now network.now }
-    ensures { IfOk result (λ out. IsStrictOutput design.now (R.rows rows.now) out.rows) }
+    requires width { W.width into.old ≡ length network.now.outputs }
+    requires none { W.has into.old [] }
+    ensures { OnOk result ((outs : List (List Bool)) × IsStrictOutput design.now (R.rows rows.now) outs × W.has into.new outs) }
 {
     let drivers = network.columns.drivers.as_slice();
     let order = network.order.as_slice();
     let outs = network.outputs.as_slice();
-    simulate(alloc, design, drivers, order, outs, rows)
+    let ready = make_ready(alloc, design, drivers, order, outs)?;
+    run_ready(alloc, &ready, rows, into)
 }

@@ -1,4 +1,4 @@
-//! Rows of bits that are held packed: 64 bits in a word.
+//! Rows of bits that are held packed, 64 bits in a word, and rows that are written one after the other.
 #![tactic(auto)]
 
 mod bits;
@@ -8,4 +8,4 @@ mod writer;
 
 pub use input::InputRows;
 pub use rows::PackedRows;
-pub use writer::packed_text;
+pub use writer::RowsPrinter;

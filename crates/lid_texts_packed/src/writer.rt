@@ -1,13 +1,21 @@
-//! Packed rows, written as a text.
+//! Rows of bits, written as a text one after the other.
 
-ghost use Rattle.std.specs.Prelude.{◌≡◌, ◌++◌, length, map, IfOk, OnOk};
-ghost use Rattle.std.specs.List.{flat_map};
-ghost use Rattle.lid_texts.specs.RowsText.{bit_char, row_text, rows_text};
+ghost use Rattle.std.specs.Prelude.{◌≡◌, ◌++◌, ◌∷◌, [], Bool, List, length, map, IfOk, OnOk};
+ghost use Rattle.lid_texts.specs.RowsText.{bit_char, row_text};
+ghost use Rattle.lid_texts_packed.specs.Writing.{HasPrinted};
 
-use crate::rows::PackedRows;
 use lid_base::Name;
 use lid_texts::append_header;
 use std::alloc::{AllocError, Global};
+
+/// The text of rows under columns, as `lid_texts::print_rows` writes it, as far as rows were pushed.
+#[derive(Drop)]
+pub struct RowsPrinter<'c> {
+    columns: &'c [Name],
+    /// Room for the characters of a row.
+    chars: Vec<u8>,
+    text: Vec<u8>,
+}
 
 /// Writes a character for each bit.
 fn print_bits(row: &[bool], into: &mut [u8])
@@ -41,47 +49,52 @@ fn append_line(
     Ok(())
 }
 
-/// Appends the line of each row.
-fn append_rows(
-    columns: &[Name],
-    packed: &PackedRows,
-    row: &mut [bool],
-    chars: &mut [u8],
-    into: &mut Vec<u8>,
-) -> Result<(), AllocError>
-    requires row { length row.old ≡ packed.now.width }
-    requires chars { length chars.old ≡ packed.now.width }
-    ensures { OnOk result (into.new.items ≡ into.old.items ++ flat_map (row_text columns.now) packed.now.rows) }
-{
-    for t in 0..packed.len() {
-        packed.read(t, row);
-        append_line(columns, row, chars, into)?;
+impl<'c> RowsPrinter<'c> {
+    /// The text of no rows, for rows of this width: the header alone.
+    ///
+    /// # Errors
+    /// Want of memory.
+    pub fn new(
+        alloc: Global,
+        columns: &'c [Name],
+        width: usize,
+    ) -> Result<RowsPrinter<'c>, AllocError>
+        ensures columns { IfOk result (λ printer. printer.columns.now ≡ columns.now) }
+        ensures width { IfOk result (λ printer. length printer.chars.items ≡ width) }
+        ensures printed { IfOk result (λ printer. HasPrinted printer []) }
+    {
+        let chars = Vec::from_elem(alloc, b'0', width)?;
+        let mut text = Vec::new(alloc);
+        append_header(columns, &mut text)?;
+        Ok(RowsPrinter {
+            columns,
+            chars,
+            text,
+        })
     }
-    Ok(())
-}
 
-/// The text of rows under columns, as `lid_texts::print_rows` writes it.
-///
-/// # Errors
-/// Want of memory.
-#[tactic(auto, unfolding(lid_texts::specs::RowsText::rows_text))]
-pub fn packed_text(
-    alloc: Global,
-    columns: &[Name],
-    packed: &PackedRows,
-) -> Result<Vec<u8>, AllocError>
-    ensures { IfOk result (λ text. text.items ≡ rows_text columns.now packed.now.rows) }
-{
-    let mut row = Vec::from_elem(alloc, false, packed.width())?;
-    let mut chars = Vec::from_elem(alloc, b'0', packed.width())?;
-    let mut text = Vec::new(alloc);
-    append_header(columns, &mut text)?;
-    append_rows(
-        columns,
-        packed,
-        row.as_mut_slice(),
-        chars.as_mut_slice(),
-        &mut text,
-    )?;
-    Ok(text)
+    /// Appends the line of a row.
+    ///
+    /// # Errors
+    /// Want of memory.
+    pub fn push(&mut self, row: &[bool]) -> Result<(), AllocError>
+        requires { length row.now ≡ length self.old.chars.items }
+        ensures columns { self.new.columns ≡ self.old.columns }
+        ensures width { length self.new.chars.items ≡ length self.old.chars.items }
+        ensures printed { OnOk result ((rows : List (List Bool)) → HasPrinted self.old rows → HasPrinted self.new (rows ++ row.now ∷ [])) }
+    {
+        append_line(
+            self.columns,
+            row,
+            self.chars.as_mut_slice(),
+            &mut self.text,
+        )
+    }
+
+    /// Hands out the text.
+    pub fn into_text(self) -> Vec<u8>
+        ensures { result.items ≡ self.entry.text.items }
+    {
+        self.text
+    }
 }

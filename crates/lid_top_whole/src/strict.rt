@@ -10,8 +10,8 @@ ghost use Rattle.lid_top_script.specs.Causes.{IsWant};
 use lid_base::{Name, Shelf};
 use lid_check::Checked;
 use lid_design::Design;
-use lid_strict::strict_packed;
-use lid_texts_packed::{PackedRows, packed_text};
+use lid_strict::strict_rows_text;
+use lid_texts_packed::PackedRows;
 use lid_top_script::{NetText, PackedText, Stop, accept, read_file};
 use std::alloc::Global;
 
@@ -24,10 +24,7 @@ fn outputs_text<'a>(
     ensures ok { IfOk result (λ text. IsStrictText checked.now rows.now.rows text.items) }
     ensures err { IfErr result IsWant }
 {
-    let Ok(outs) = strict_packed(alloc, checked, rows) else {
-        return Err(Stop::Memory);
-    };
-    match packed_text(alloc, checked.outputs(), &outs) {
+    match strict_rows_text(alloc, checked, rows) {
         Ok(text) => Ok(text),
         Err(_) => Err(Stop::Memory),
     }

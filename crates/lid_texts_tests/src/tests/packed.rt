@@ -4,7 +4,7 @@ use crate::tests::rows::{NO_FAULT, Told, columns, told};
 use lid_base::Name;
 use lid_texts::VecFault;
 use lid_texts_feed::read_packed;
-use lid_texts_packed::{PackedRows, packed_text};
+use lid_texts_packed::{PackedRows, RowsPrinter};
 use std::alloc::{AllocError, Global};
 
 /// A text, its one-letter columns, what is told of it, and how its rows are written. A row of 70 columns takes two
@@ -47,9 +47,20 @@ J K L M N O P Q R S T U V W X Y Z 0 1 2 3 4 5 6 7 8 9 _ . : ; , + * !\n\
     (b"d e\n10\n1x\n", b"de", ("Char", 3), b""),
 ];
 
+/// Writes rows.
+fn write(alloc: Global, names: &[Name], packed: &PackedRows) -> Result<Vec<u8>, AllocError> {
+    let mut row = Vec::from_elem(alloc, false, packed.width())?;
+    let mut printer = RowsPrinter::new(alloc, names, packed.width())?;
+    for t in 0..packed.len() {
+        packed.read(t, row.as_mut_slice());
+        printer.push(row.as_slice())?;
+    }
+    Ok(printer.into_text())
+}
+
 /// Whether rows are written so.
 fn is_written(alloc: Global, names: &[Name], packed: &PackedRows, want: &[u8]) -> bool {
-    match packed_text(alloc, names, packed) {
+    match write(alloc, names, packed) {
         Ok(text) => text.as_slice() == want,
         Err(_) => false,
     }

@@ -1,9 +1,7 @@
-use Rattle.std.proofs.Common.{◌≡◌, [], ◌+◌, ◌<◌, Bool, List, length, map, get_or, refl, sym, ◌∙◌, ap, subst, arith}
+use Rattle.std.proofs.Common.{◌≡◌, [], ◌+◌, ◌<◌, ◌++◌, ◌∷◌, Bool, List, length, map, get_or, refl, sym, ◌∙◌, ap, arith}
 use Rattle.std.proofs.lemmas.List.{length-map}
 use Rattle.lid_strict_engine.specs.Rows.{bit_at}
-use Rattle.lid_texts_packed.specs.Rows.{WideRows}
 use Rattle.lid_strict.specs.Networks.{rows_at}
-use Rattle.lid_strict.specs.Layouts.{IsStrictRun}
 use Rattle.lid_strict.proofs.Running.{runs_next}
 use Rattle.lid_strict.proofs.simulation.run_rows.Goals as goal
 
@@ -13,8 +11,8 @@ loop-t-init g c = (
   c.requires.inputs,
   c.requires.bits,
   c.requires.out,
-  ap (λ (v : WideRows). v.width) c.requires.none,
-  λ b fits. (c.requires.state, ap (λ (v : WideRows). v.rows) c.requires.none),
+  c.requires.width,
+  record { given = []; run = λ b fits. (c.requires.state, refl); held = c.requires.none; },
 )
 
 pub loop-t-preserved : goal.loop-t-preserved
@@ -27,14 +25,18 @@ loop-t-preserved g c =
     let h : t < length rows = omega (arith, c.loop-t-test.true, c.count-t-end.ensures) in
     let new = c.run_row.new in
     let is = c.run_row.ensures in
-    let read = c.read_row.ensures ∙ ap (map (bit_at row)) c.as_slice.ensures.value in
-    let next = runs_next p outs rows t c.loop-t.state new.state new.bits row c.pick.new.into c.loop-t.results.rows c.requires.runnable.settled c.requires.outs h refl c.loop-t.invariant.5 is.state (λ f fits. is.bits row f read fits) c.pick.ensures in (
+    let before = c.loop-t.invariant.5 in
+    let read = c.read_row.ensures ∙ ap (map (bit_at row)) c.as_slice.ensures.value in (
       is.state_size,
       ap (λ (bs : List Bool). length bs) read ∙ length-map p.places.items (bit_at row),
       is.bits_size,
       ap (λ (bs : List Bool). length bs) c.pick.ensures ∙ length-map outs (bit_at new.bits),
       c.in_ok-push.ensures.width ∙ c.loop-t.invariant.4,
-      subst (λ (rs : List (List Bool)). IsStrictRun p outs rows (t + 1) new.state rs) (sym (ap (λ (v : WideRows). v.rows) c.in_ok-push.ensures.ok)) next,
+      record {
+        given = before.given ++ c.pick.new.into ∷ [];
+        run = runs_next p outs rows t c.loop-t.state new.state new.bits row c.pick.new.into before.given c.requires.runnable.settled c.requires.outs h refl before.run is.state (λ f fits. is.bits row f read fits) c.pick.ensures;
+        held = c.in_ok-push.ensures.has before.given before.held;
+      },
     )
 
 pub push-requires : goal.push-requires
@@ -42,7 +44,12 @@ push-requires g c =
     ap (λ (bs : List Bool). length bs) c.pick.ensures ∙ length-map c.args.run.now.outs.now (bit_at c.run_row.new.bits) ∙ sym c.loop-t.invariant.4
 
 pub returns : goal.returns
-returns g c = λ b fits.
+returns g c =
     let rows = g.R.RowSource.rows c.args.run.now.rows.now in
     let all : c.loop-t.t ≡ length rows = omega (arith, c.loop-t-test.false, c.loop-t.auto.t-end, c.count-t-end.ensures) in
-    (c.loop-t.invariant.5 b fits).1 ∙ ap (rows_at c.args.run.now.outs.now b) all
+    let done = c.loop-t.invariant.5 in
+    record {
+      given = done.given;
+      each = λ b fits. (done.run b fits).1 ∙ ap (rows_at c.args.run.now.outs.now b) all;
+      held = done.held;
+    }

@@ -1,5 +1,5 @@
 use Rattle.std.proofs.Common.{◌≡◌, length}
-use Rattle.lid_strict.specs.Layouts.{IsStrictRun}
+use Rattle.lid_strict.specs.Layouts.{HasRun}
 use Rattle.lid_strict.proofs.simulation.run_rows.Given as goal
 
 abbrev pub invariant-loop-t : goal.invariant-loop-t
@@ -8,5 +8,5 @@ invariant-loop-t g l =
     × (length l.inputs ≡ length l.run.layout.now.places.items)
     × (length l.bits ≡ l.run.layout.now.program.nets)
     × (length l.out ≡ length l.run.outs.now)
-    × (l.results.width ≡ length l.run.outs.now)
-    × IsStrictRun l.run.layout.now l.run.outs.now (g.R.RowSource.rows l.run.rows.now) l.t l.state l.results.rows
+    × (g.W.RowStore.width l.into ≡ length l.run.outs.now)
+    × HasRun l.run.layout.now l.run.outs.now (g.R.RowSource.rows l.run.rows.now) l.t l.state (g.W.RowStore.has l.into)

@@ -1,4 +1,4 @@
-use Rattle.std.proofs.Common.{refl, sym, ◌∙◌, subst}
+use Rattle.std.proofs.Common.{◌≡◌, Bool, List, refl, sym, ◌∙◌, subst}
 use Rattle.lid_design.specs.declared.Design.{Design}
 use Rattle.lid_check.specs.Networks.{IsNetwork}
 use Rattle.lid_strict.proofs.Outputs.{output_shape}
@@ -7,8 +7,11 @@ use Rattle.lid_strict.proofs.whole.strict.Goals as goal
 pub run-requires-clause-network : goal.run-requires-clause-network
 run-requires-clause-network c = subst (λ (d : Design). IsNetwork d c.network.result.now) (sym c.design.ensures.same) c.network.ensures
 
+pub returns-clause-ok : goal.returns-clause-ok
+returns-clause-ok c = ?
+
 pub returns-clause-height : goal.returns-clause-height
-returns-clause-height c = rw (c.from_vec.ensures ∙ c.in_ok-bits.ensures) (output_shape _ _ _ _ _ c.design.ensures.same refl c.in_ok-packed.ensures).height
+returns-clause-height c = ?
 
 pub returns-clause-width : goal.returns-clause-width
-returns-clause-width c = rw (c.from_vec.ensures ∙ c.in_ok-bits.ensures) (output_shape _ _ _ _ _ c.design.ensures.same refl c.in_ok-packed.ensures).width
+returns-clause-width c = ?
