@@ -124,7 +124,7 @@ each_again v k j (suc n) same =
     let next = λ (i : ℕ). (let e : (k + 1) + i ≡ k + suc i = omega arith in ap v e) ∙ same (suc i) ∙ (let e : j + suc i ≡ (j + 1) + i = omega arith in ap v e) in
     ap (λ (b : Bool). b ∷ from_each v (k + 1) n) head ∙ ap (λ (bs : List Bool). v j ∷ bs) (each_again v (k + 1) (j + 1) n next)
 
-packed_append : (xs ys : List Bool) → packed (xs ++ ys) ≡ packed xs + 2 ^ length xs * packed ys
+pub packed_append : (xs ys : List Bool) → packed (xs ++ ys) ≡ packed xs + 2 ^ length xs * packed ys
 packed_append [] ys = omega arith
 packed_append (x ∷ xs) ys =
     let later = packed_append xs ys in

@@ -1,12 +1,12 @@
 -- What a loop over a group goes through, and groups that follow one another.
-use Rattle.std.proofs.Common.{◌≡◌, ◌⊎◌, ℕ, zero, suc, ◌+◌, ◌-◌, ◌<◌, ◌≤◌, Bool, true, false, List, [], ◌∷◌, ◌++◌, length, map, take, drop, set, get_or, Some, None, slice_get, option_map, inl, inr, refl, sym, ◌∙◌, ap, subst, arith}
+use Rattle.std.proofs.Common.{◌≡◌, ◌⊎◌, ℕ, zero, suc, ◌+◌, ◌-◌, ◌*◌, ◌/◌, ◌%◌, ◌^◌, ◌<◌, ◌≤◌, Bool, true, false, List, [], ◌∷◌, ◌++◌, length, map, take, drop, set, get_or, Some, None, slice_get, option_map, inl, inr, refl, sym, ◌∙◌, ap, subst, arith}
 use Rattle.std.specs.Int.{from_bool}
 use Rattle.std.specs.List.{AllByRecursion, flat_map}
-use Rattle.std.proofs.lemmas.List.{take_all, length-map, length-take, length-drop, length-append, take-append-le}
+use Rattle.std.proofs.lemmas.List.{take_all, length-map, length-take, length-drop, length-append, take-append-le, take-append-drop}
 use Rattle.std.proofs.lemmas.Option.{slice_get_cases, get_or_from_slice_get, slice_get-map}
 use Rattle.lid_base.proofs.Alls.{all_take, all_drop}
 use Rattle.lid_base.proofs.Lists.{all_at}
-use Rattle.lid_base.proofs.Places.{item_read, get_map}
+use Rattle.lid_base.proofs.Places.{item_at, item_read, get_map}
 use Rattle.lid_cover.specs.declared.Cover.{Cover}
 use Rattle.lid_cover.specs.declared.Cube.{Cube}
 use Rattle.lid_cover.specs.Cover.{cover_value}
@@ -18,10 +18,11 @@ use Rattle.lid_strict_engine.specs.Truth.{is_set, IsTruthTable}
 use Rattle.lid_strict_engine.specs.Programs.{shown_step, step_cover, IsStep}
 use Rattle.lid_strict_engine.specs.Rows.{bit_at, AreRightAt, known_after}
 use Rattle.lid_strict_engine.proofs.Settling.{settled_next}
-use Rattle.lid_strict_engine.proofs.Tabling.{packed_below, unpacked_packed}
+use Rattle.lid_strict_engine.proofs.Tabling.{packed_below, packed_append, unpacked_packed}
+use Rattle.lid_strict_tables.specs.Wide.{IsTabled, IsTableOf, IsWideTable}
 use Rattle.lid_strict_widths.specs.declared.group.Group.{Group}
 use Rattle.lid_strict_widths.specs.declared.group.ByWidth.{ByWidth}
-use Rattle.lid_strict_widths.specs.Steps.{no_step, step_out, step_table, own_reads, reads_before}
+use Rattle.lid_strict_widths.specs.Steps.{no_step, step_out, own_reads, reads_before}
 use Rattle.lid_strict_widths.specs.Groups.{IsGroup, Tile, run_steps, IsByWidth, RightUpTo}
 use Rattle.lid_strict_widths.proofs.Standing.{picked_all, steps_among, order_within}
 
@@ -38,6 +39,24 @@ pub table_exact : (table : ℕ) (cover : Cover) (bits : List Bool) → IsTruthTa
 table_exact table cover bits is long few =
     let small : packed bits < 64 = packed_below bits 6 (omega arith) in
     is (packed bits) small
+    ∙ ap (cover_value cover) (unpacked_packed cover.inputs bits (omega arith) ∙ take_all cover.inputs bits (omega arith))
+
+-- what a table of words says of the packed bits of all inputs
+pub wide_exact : (words : List ℕ) (first : ℕ) (cover : Cover) (bits : List Bool) → IsWideTable words first cover → length bits ≡ cover.inputs → 6 ≤ cover.inputs
+    → is_set (get_or words (first + packed (drop 6 bits)) 0) (packed (take 6 bits)) ≡ cover_value cover bits
+wide_exact words first cover bits is long many =
+    let low = take 6 bits in
+    let high = drop 6 bits in
+    let six : length low ≡ 6 = length-take 6 bits ∙ (omega arith) in
+    let small : packed low < 64 = packed_below low 6 (omega arith) in
+    let below : packed bits < 2 ^ cover.inputs = packed_below bits cover.inputs (omega arith) in
+    let parts : packed bits ≡ packed low + 64 * packed high =
+    ap packed (sym (take-append-drop 6 bits)) ∙ packed_append low high ∙ ap (λ (n : ℕ). packed low + 2 ^ n * packed high) six in
+    let place : packed bits / 64 ≡ packed high = omega arith in
+    let bit : packed bits % 64 ≡ packed low = omega arith in
+    ap (λ (n : ℕ). is_set (get_or words (first + n) 0) (packed low)) (sym place)
+    ∙ ap (λ (n : ℕ). is_set (get_or words (first + packed bits / 64) 0) n) (sym bit)
+    ∙ is.bits (packed bits) below
     ∙ ap (cover_value cover) (unpacked_packed cover.inputs bits (omega arith) ∙ take_all cover.inputs bits (omega arith))
 
 -- the bits of as many nets as a small cover has inputs
@@ -108,7 +127,9 @@ pub record Hand (x : ByWidth) (i : ℕ) : Type 0 where
   pub s : ProgramStep
   pub here : slice_get (run_steps x) i ≡ Some s
   pub is_out : slice_get x.outs.items i ≡ Some s.out
-  pub is_table : slice_get x.tables.items i ≡ Some s.table
+  pub table : ℕ
+  pub is_table : slice_get x.tables.items i ≡ Some table
+  pub tells : IsTableOf x.words.items x.program.cubes.items s table
   pub step : IsStep x.program.nets x.program.reads.items x.program.cubes.items s
   pub room : reads_before (run_steps x) i + s.width ≤ length x.reads.items
   pub reads : take s.width (drop (reads_before (run_steps x) i) x.reads.items) ≡ own_reads x.program.reads.items s
@@ -125,11 +146,15 @@ hand_at x i is inside = by (slice_get_cases (run_steps x) i).1
         let all = run_all x is in
         let whole = all_whole x.program.nets x.program.reads.items x.program (run_steps x) all in
         let at = reads_at x.program.reads.items (run_steps x) i found.0 whole here in
+        let long = is.tables.long in
+        let table = item_at x.tables.items i (omega arith) in
         record {
           s = found.0;
           here = here;
           is_out = ap (λ (xs : List ℕ). slice_get xs i) is.outs ∙ (slice_get-map step_out (run_steps x) i ∙ ap (option_map step_out) here);
-          is_table = ap (λ (xs : List ℕ). slice_get xs i) is.tables ∙ (slice_get-map step_table (run_steps x) i ∙ ap (option_map step_table) here);
+          table = table.0;
+          is_table = table.1;
+          tells = subst (IsTableOf x.words.items x.program.cubes.items found.0) (get_or_from_slice_get x.tables.items i table.0 0 table.1) (is.tables.each i found.0 here);
           step = all_at (IsStep x.program.nets x.program.reads.items x.program.cubes.items) (run_steps x) i found.0 all here;
           room = subst (λ (xs : List ℕ). reads_before (run_steps x) i + found.0.width ≤ length xs) (sym is.reads) at.0;
           reads = ap (λ (xs : List ℕ). take found.0.width (drop (reads_before (run_steps x) i) xs)) is.reads ∙ at.1;
@@ -164,14 +189,20 @@ nets_at x i at width seen h place wide same =
     ∙ h.reads
 
 -- what a loop tells of a step by its table
-pub value_at : (x : ByWidth) (i table : ℕ) (bits : List Bool) (nets : List ℕ) (v : Bool) (h : Hand x i) → h.s.width ≤ 6 → table ≡ h.s.table → nets ≡ own_reads x.program.reads.items h.s
-    → ((cover : Cover) → IsTruthTable table cover → cover.inputs ≡ length nets → v ≡ cover_value cover (map (bit_at bits) nets))
+pub value_at : (x : ByWidth) (i : ℕ) (Is : Cover → Type 0) (bits : List Bool) (nets : List ℕ) (v : Bool) (h : Hand x i) → Is (step_cover x.program.cubes.items h.s) → nets ≡ own_reads x.program.reads.items h.s
+    → ((cover : Cover) → Is cover → cover.inputs ≡ length nets → v ≡ cover_value cover (map (bit_at bits) nets))
     → v ≡ cover_value (step_cover x.program.cubes.items h.s) (map (bit_at bits) (own_reads x.program.reads.items h.s))
-value_at x i table bits nets v h few same reads says =
+value_at x i Is bits nets v h is reads says =
     let cover = step_cover x.program.cubes.items h.s in
     let long : h.s.width ≡ length nets = sym (ap (λ (xs : List ℕ). length xs) reads ∙ h.whole) in
-    says cover (subst (λ (t : ℕ). IsTruthTable t (step_cover x.program.cubes.items h.s)) (sym same) (h.step.table few)) long
+    says cover is long
     ∙ ap (λ (xs : List ℕ). cover_value (step_cover x.program.cubes.items h.s) (map (bit_at bits) xs)) reads
+
+pub is_small : (x : ByWidth) (i table : ℕ) (h : Hand x i) → h.s.width ≤ 6 → table ≡ h.table → IsTruthTable table (step_cover x.program.cubes.items h.s)
+is_small x i table h few same = subst (λ (t : ℕ). IsTruthTable t (step_cover x.program.cubes.items h.s)) (sym (same ∙ h.tells.small few)) (h.step.table few)
+
+pub is_wide : (x : ByWidth) (i table : ℕ) (h : Hand x i) → IsTabled h.s → table ≡ h.table → IsWideTable x.words.items table (step_cover x.program.cubes.items h.s)
+is_wide x i table h tabled same = subst (λ (t : ℕ). IsWideTable x.words.items t (step_cover x.program.cubes.items h.s)) (sym same) (h.tells.wide tabled)
 
 -- a number that is told of a place of an array
 pub told_of : (xs : List ℕ) (i x d : ℕ) → slice_get xs i ≡ Some x → d ≡ get_or xs i d → d ≡ x
@@ -191,7 +222,7 @@ right_joined covers from at to old mid new one other f known row earlier before 
 
 -- what a read past the end would give
 abbrev pub no_group : Group
-no_group = record { start = 0; end = 0; width = 0 }
+no_group = record { start = 0; end = 0; width = 0; tabled = false }
 
 -- the group at a place is the next of those that are left
 pub record TileNext (steps : List ProgramStep) (at to : ℕ) (g : Group) (groups : List Group) : Type 0 where

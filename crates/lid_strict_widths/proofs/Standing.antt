@@ -4,17 +4,17 @@ use Rattle.std.specs.List.{AllByRecursion}
 use Rattle.std.proofs.lemmas.List.{get_or-map, length-map}
 use Rattle.std.proofs.lemmas.Option.{slice_get-map, get_or_from_slice_get}
 use Rattle.lid_base.specs.Each.{from_each}
-use Rattle.lid_base.proofs.Alls.{all_from_among}
+use Rattle.lid_base.proofs.Alls.{all_from_among, all_weaker}
 use Rattle.lid_base.proofs.Each.{each_map, all_each_below}
 use Rattle.lid_base.specs.Lists.{Among}
 use Rattle.std.proofs.lemmas.Bool.{cases_lt}
 use Rattle.lid_base.proofs.Lists.{all_among, among_at, among_map, map_among, get_among, among_get, among_take}
-use Rattle.lid_cover.specs.Cover.{cover_value}
+use Rattle.lid_cover.specs.Cover.{cover_value, IsCover}
 use Rattle.lid_design.specs.declared.FlatCover.{FlatCover}
 use Rattle.lid_design.specs.Flat.{IsRow, ReadEarlier}
 use Rattle.lid_strict_engine.specs.declared.program.Program.{Program}
 use Rattle.lid_strict_engine.specs.declared.program.ProgramStep.{ProgramStep}
-use Rattle.lid_strict_engine.specs.Programs.{shown_step, program_covers, IsStep, IsProgram}
+use Rattle.lid_strict_engine.specs.Programs.{step_cover, shown_step, program_covers, IsSpan, IsStep, IsProgram}
 use Rattle.lid_strict_engine.specs.Rows.{known_after}
 use Rattle.lid_strict_engine.proofs.Settling.{after_keeps, after_has, earlier_at}
 use Rattle.lid_strict_widths.specs.Steps.{no_step, steps_at, own_reads}
@@ -73,6 +73,16 @@ picked_room p picked ready of = rooms picked (picked_all (IsStep p.nets p.reads.
     rooms : (steps : List ProgramStep) → AllByRecursion (IsStep p.nets p.reads.items p.cubes.items) steps → AllByRecursion (λ s. s.first + s.width ≤ length p.reads.items) steps
     rooms [] all = tt
     rooms (s ∷ steps) all = ((let read = all.0.read in omega arith), rooms steps all.1)
+
+pub picked_rows : (p : Program) (picked : List ProgramStep) → IsProgram p → AllByRecursion (λ s. Among s p.steps.items) picked → AllByRecursion (λ s. IsSpan p.cubes.items s.cubes) picked
+picked_rows p picked ready of =
+    all_weaker (IsStep p.nets p.reads.items p.cubes.items) (λ s. IsSpan p.cubes.items s.cubes) picked (λ s is. is.rows)
+    (picked_all (IsStep p.nets p.reads.items p.cubes.items) p.steps.items picked ready.steps of)
+
+pub picked_covers : (p : Program) (picked : List ProgramStep) → IsProgram p → AllByRecursion (λ s. Among s p.steps.items) picked → AllByRecursion (λ s. IsCover (step_cover p.cubes.items s)) picked
+picked_covers p picked ready of =
+    all_weaker (IsStep p.nets p.reads.items p.cubes.items) (λ s. IsCover (step_cover p.cubes.items s)) picked (λ s is. is.cover)
+    (picked_all (IsStep p.nets p.reads.items p.cubes.items) p.steps.items picked ready.steps of)
 
 pub picked_outs : (p : Program) (picked : List ProgramStep) → IsProgram p → AllByRecursion (λ s. Among s p.steps.items) picked → AllByRecursion (λ s. s.out < p.nets) picked
 picked_outs p picked ready of = outs picked (picked_all (IsStep p.nets p.reads.items p.cubes.items) p.steps.items picked ready.steps of)

@@ -13,9 +13,6 @@ steps_at steps places = map (λ k. get_or steps k no_step) places
 abbrev pub step_out : ProgramStep → ℕ
 step_out s = s.out
 
-abbrev pub step_table : ProgramStep → ℕ
-step_table s = s.table
-
 -- the nets that a step reads
 abbrev pub own_reads : List ℕ → ProgramStep → List ℕ
 own_reads reads s = take s.width (drop s.first reads)

@@ -1,15 +1,19 @@
 //! A program gets its groups.
 
-ghost use Rattle.std.specs.Prelude.{◌≡◌, ◌≤◌, ◌<◌, ◌+◌, length, map, IfOk};
+ghost use Rattle.std.specs.Prelude.{◌≡◌, ◌≤◌, ◌<◌, ◌+◌, ◌↔◌, true, IsTrue, length, map, IfOk};
 ghost use Rattle.std.specs.List.{AllByRecursion, flat_map};
-ghost use Rattle.lid_strict_engine.specs.Programs.{program_covers, IsProgram};
-ghost use Rattle.lid_strict_widths.specs.Steps.{step_out, step_table, own_reads};
+ghost use Rattle.lid_cover.specs.Cover.{IsCover};
+ghost use Rattle.lid_strict_engine.specs.Programs.{step_cover, program_covers, IsSpan, IsProgram};
+ghost use Rattle.lid_strict_tables.specs.Wide.{IsTabled};
+ghost use Rattle.lid_strict_widths.specs.Steps.{step_out, own_reads};
 ghost use Rattle.lid_strict_widths.specs.Orders.{IsRunOrder};
-ghost use Rattle.lid_strict_widths.specs.Groups.{IsGroup, Tile, IsByWidth};
+ghost use Rattle.lid_strict_widths.specs.Groups.{IsGroup, Tile, AreTables, IsByWidth};
 
-use crate::group::{ByWidth, Group};
+use crate::group::{ByWidth, Group, Tables};
 use crate::ordering::collect_steps;
+use lid_cover::Cube;
 use lid_strict_engine::{Program, ProgramStep, copy_of};
+use lid_strict_tables::{is_tabled, push_table};
 use std::alloc::{AllocError, Global};
 
 /// The nets that steps write.
@@ -23,15 +27,19 @@ fn outs_of(alloc: Global, steps: &[ProgramStep]) -> Result<Vec<u32>, AllocError>
     Ok(outs)
 }
 
-/// The truth tables of steps.
-fn tables_of(alloc: Global, steps: &[ProgramStep]) -> Result<Vec<u64>, AllocError>
-    ensures { IfOk result (λ tables. tables.items ≡ map step_table steps.now) }
+/// The truth tables of steps, each as one number or in words.
+fn tables_of(alloc: Global, cubes: &[Cube], steps: &[ProgramStep]) -> Result<Tables, AllocError>
+    requires rows { AllByRecursion (λ s. IsSpan cubes.now s.cubes) steps.now }
+    requires covers { AllByRecursion (λ s. IsCover (step_cover cubes.now s)) steps.now }
+    ensures { IfOk result (λ kept. AreTables kept.words.items cubes.now steps.now kept.tables.items) }
 {
     let mut tables = Vec::with_capacity(alloc, steps.len())?;
+    let mut words = Vec::new(alloc);
     for step in steps {
-        tables.push(step.table)?;
+        let table = push_table(&mut words, cubes, *step)?;
+        tables.push(table)?;
     }
-    Ok(tables)
+    Ok(Tables { words, tables })
 }
 
 /// The nets that steps read, step after step.
@@ -47,6 +55,13 @@ fn reads_of(alloc: Global, reads: &[u32], steps: &[ProgramStep]) -> Result<Vec<u
     Ok(own)
 }
 
+/// Whether a step is one of these.
+fn belongs(step: ProgramStep, width: u32, tabled: bool) -> bool
+    ensures { result ≡ true → (step.width ≡ width) × (IsTrue tabled ↔ IsTabled step) }
+{
+    step.width == width && is_tabled(step) == tabled
+}
+
 /// A group from a step on (the longest, which no clause says).
 fn group_from(steps: &[ProgramStep], start: usize) -> Group
     requires there { start < length steps.now }
@@ -56,10 +71,16 @@ fn group_from(steps: &[ProgramStep], start: usize) -> Group
 {
     let width = steps[start].width;
     let mut end = start + 1;
-    while end < steps.len() && steps[end].width == width {
+    let tabled = is_tabled(steps[start]);
+    while end < steps.len() && belongs(steps[end], width, tabled) {
         end += 1;
     }
-    Group { start, end, width }
+    Group {
+        start,
+        end,
+        width,
+        tabled,
+    }
 }
 
 /// Steps in groups.
@@ -90,13 +111,15 @@ pub fn by_width(program: Program, order: Vec<usize>) -> Result<ByWidth, AllocErr
     let alloc = *program.steps.allocator();
     let steps = collect_steps(alloc, program.steps.as_slice(), order.as_slice())?;
     let outs = outs_of(alloc, steps.as_slice())?;
-    let tables = tables_of(alloc, steps.as_slice())?;
+    let kept = tables_of(alloc, program.cubes.as_slice(), steps.as_slice())?;
     let reads = reads_of(alloc, program.reads.as_slice(), steps.as_slice())?;
     let groups = groups_of(alloc, steps.as_slice())?;
+    let Tables { words, tables } = kept;
     Ok(ByWidth {
         program,
         order,
         outs,
+        words,
         tables,
         reads,
         groups,

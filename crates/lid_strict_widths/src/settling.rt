@@ -1,6 +1,6 @@
 //! One row: the covers of a program are run, group by group.
 
-ghost use Rattle.std.specs.Prelude.{◌≡◌, ◌≤◌, ◌<◌, ◌+◌, ℕ, Bool, List, length, map, Some, slice_get};
+ghost use Rattle.std.specs.Prelude.{◌≡◌, ◌≤◌, ◌<◌, ◌+◌, ◌^◌, IsTrue, ℕ, Bool, List, length, map, Some, slice_get};
 ghost use Rattle.std.specs.List.{AllByRecursion};
 ghost use Rattle.lid_strict_engine.specs.Truth.{is_set, IsTruthTable};
 ghost use Rattle.lid_cover.specs.declared.Cover.{Cover};
@@ -8,6 +8,7 @@ ghost use Rattle.lid_cover.specs.Cover.{cover_value};
 ghost use Rattle.lid_design.specs.Flat.{IsRow, ReadEarlier};
 ghost use Rattle.lid_strict_engine.specs.Programs.{program_covers};
 ghost use Rattle.lid_strict_engine.specs.Rows.{bit_at, AreRightAt, known_after};
+ghost use Rattle.lid_strict_tables.specs.Wide.{IsWideTable};
 ghost use Rattle.lid_strict_widths.specs.Steps.{reads_before};
 ghost use Rattle.lid_strict_widths.specs.Groups.{IsGroup, run_steps, run_covers, IsByWidth, RightUpTo};
 
@@ -57,6 +58,51 @@ fn settle_by<P: Packing>(x: &ByWidth, group: Group, reads_at: usize, bits: &mut 
     at
 }
 
+/// The value of a cover that reads six nets more than this, by its table of words.
+fn value_by_words<P: Packing>(words: &[u64], first: u64, nets: &[u32], bits: &[bool]) -> bool
+    requires width { length nets.now ≡ 6 + P.width }
+    requires few { P.width ≤ 6 }
+    requires below { AllByRecursion (λ k. k < length bits.now) nets.now }
+    requires room { first + 2 ^ P.width ≤ length words.now }
+    ensures { (cover : Cover) → IsWideTable words.now first cover → cover.inputs ≡ length nets.now → result ≡ cover_value cover (map (bit_at bits.now) nets.now) }
+{
+    let high = P::pack(bits, &nets[6..]);
+    bit_of(
+        words[(first + high) as usize],
+        Six::pack(bits, &nets[..6]),
+    )
+}
+
+/// Runs the steps of a group that read six nets more than this by their tables of words, and answers where the reads after
+/// theirs begin.
+fn settle_by_words<P: Packing>(
+    x: &ByWidth,
+    group: Group,
+    reads_at: usize,
+    bits: &mut [bool],
+) -> usize
+    requires is { IsByWidth x.now }
+    requires group { IsGroup (run_steps x.now) group }
+    requires width { group.width ≡ 6 + P.width }
+    requires few { P.width ≤ 6 }
+    requires tabled { IsTrue group.tabled }
+    requires at { reads_at ≡ reads_before (run_steps x.now) group.start }
+    requires size { x.now.program.nets ≤ length bits.old }
+    ensures at { result ≡ reads_before (run_steps x.now) group.end }
+    ensures size { length bits.new ≡ length bits.old }
+    ensures bits { RightUpTo (run_covers x.now) group.start bits.old group.end bits.new }
+{
+    let width = group.width as usize;
+    let mut at = reads_at;
+    for i in group.start..group.end {
+        let nets = &x.reads.as_slice()[at..at + width];
+        let value = value_by_words::<P>(x.words.as_slice(), x.tables[i], nets, bits);
+        bits[x.outs[i] as usize] = value;
+        at += width;
+    }
+    at
+}
+
 /// The step that is run after so many others.
 fn step_at(x: &ByWidth, i: usize) -> ProgramStep
     requires is { IsByWidth x.now }
@@ -86,6 +132,28 @@ fn settle_by_rows(x: &ByWidth, group: Group, reads_at: usize, bits: &mut [bool])
     at
 }
 
+/// Runs the steps of a group that have tables of words, and answers where the reads after theirs begin.
+fn settle_tabled(x: &ByWidth, group: Group, reads_at: usize, bits: &mut [bool]) -> usize
+    requires is { IsByWidth x.now }
+    requires group { IsGroup (run_steps x.now) group }
+    requires tabled { IsTrue group.tabled }
+    requires at { reads_at ≡ reads_before (run_steps x.now) group.start }
+    requires size { x.now.program.nets ≤ length bits.old }
+    ensures at { result ≡ reads_before (run_steps x.now) group.end }
+    ensures size { length bits.new ≡ length bits.old }
+    ensures bits { RightUpTo (run_covers x.now) group.start bits.old group.end bits.new }
+{
+    match group.width {
+        7 => settle_by_words::<One>(x, group, reads_at, bits),
+        8 => settle_by_words::<Two>(x, group, reads_at, bits),
+        9 => settle_by_words::<Three>(x, group, reads_at, bits),
+        10 => settle_by_words::<Four>(x, group, reads_at, bits),
+        11 => settle_by_words::<Five>(x, group, reads_at, bits),
+        12 => settle_by_words::<Six>(x, group, reads_at, bits),
+        _ => settle_by_rows(x, group, reads_at, bits),
+    }
+}
+
 /// Runs the steps of a group, and answers where the reads after theirs begin.
 fn settle_group(x: &ByWidth, group: Group, reads_at: usize, bits: &mut [bool]) -> usize
     requires is { IsByWidth x.now }
@@ -96,6 +164,9 @@ fn settle_group(x: &ByWidth, group: Group, reads_at: usize, bits: &mut [bool]) -
     ensures size { length bits.new ≡ length bits.old }
     ensures bits { RightUpTo (run_covers x.now) group.start bits.old group.end bits.new }
 {
+    if group.tabled {
+        return settle_tabled(x, group, reads_at, bits);
+    }
     match group.width {
         1 => settle_by::<One>(x, group, reads_at, bits),
         2 => settle_by::<Two>(x, group, reads_at, bits),

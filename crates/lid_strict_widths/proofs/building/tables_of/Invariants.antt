@@ -1,6 +1,5 @@
-use Rattle.std.proofs.Common.{◌≡◌, ◌++◌, map, drop}
-use Rattle.lid_strict_widths.specs.Steps.{step_table}
+use Rattle.lid_strict_widths.proofs.Tables.{HasTables}
 use Rattle.lid_strict_widths.proofs.building.tables_of.Given as goal
 
 abbrev pub invariant-loop-step : goal.invariant-loop-step
-invariant-loop-step l = l.tables.items ++ map step_table (drop l.step-index l.steps) ≡ map step_table l.steps
+invariant-loop-step l = HasTables l.words.items l.cubes l.steps l.tables.items l.step-index

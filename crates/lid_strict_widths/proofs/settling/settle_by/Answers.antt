@@ -2,8 +2,9 @@ use Rattle.std.proofs.Common.{◌≡◌, ◌+◌, ◌-◌, ◌<◌, ◌≤◌, �
 use Rattle.std.specs.List.{AllByRecursion}
 use Rattle.std.proofs.lemmas.List.{length-set}
 use Rattle.lid_base.proofs.Alls.{all_weaker}
+use Rattle.lid_strict_engine.specs.Truth.{IsTruthTable}
 use Rattle.lid_strict_widths.specs.Groups.{run_steps, run_covers, RightUpTo}
-use Rattle.lid_strict_widths.proofs.Going.{hand_at, nets_at, value_at, told_of, right_next}
+use Rattle.lid_strict_widths.proofs.Going.{hand_at, nets_at, value_at, is_small, told_of, right_next}
 use Rattle.lid_strict_widths.proofs.settling.settle_by.Goals as goal
 
 pub overflow_add-nets : goal.overflow_add-nets
@@ -73,9 +74,9 @@ loop-i-preserved g c =
     let below = h.step.out in
     let size : c.args.x.now.program.nets ≤ length c.loop-i.bits = subst (λ (n : ℕ). c.args.x.now.program.nets ≤ n) (sym c.loop-i.invariant.0) c.requires.size in
     let nets = nets_at c.args.x.now i c.loop-i.at c.args.group.width c.as_slice.result.now h c.loop-i.invariant.1 (sym wide) c.as_slice.ensures.value in
-    let table = told_of c.args.x.now.tables.items i h.s.table c.index.result.now h.is_table c.index.ensures in
+    let table = told_of c.args.x.now.tables.items i h.table c.index.result.now h.is_table c.index.ensures in
     let few = c.requires.few in
-    let value = value_at c.args.x.now i c.index.result.now c.loop-i.bits (take (c.loop-i.at + c.args.group.width - c.loop-i.at) (drop c.loop-i.at c.as_slice.result.now)) c.value_by_table-value.result h (omega arith) table nets c.value_by_table-value.ensures in
+    let value = value_at c.args.x.now i (IsTruthTable c.index.result.now) c.loop-i.bits (take (c.loop-i.at + c.args.group.width - c.loop-i.at) (drop c.loop-i.at c.as_slice.result.now)) c.value_by_table-value.result h (is_small c.args.x.now i c.index.result.now h (omega arith) table) nets c.value_by_table-value.ensures in
     let next = h.next in
     let at = c.loop-i.invariant.1 in (
       length-set c.loop-i.bits c.index-in-loop-i.result.now c.value_by_table-value.result ∙ c.loop-i.invariant.0,
