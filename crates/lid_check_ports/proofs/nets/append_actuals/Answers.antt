@@ -1,4 +1,4 @@
-use Rattle.std.proofs.Common.{ℕ, Bool, List, ◌<◌, ◌≤◌, ◌∷◌, [], cond, filter, map, length, slice_get, ap, subst, sym, ◌∙◌, arith}
+use Rattle.std.proofs.Common.{Bool, List, ◌<◌, ◌≤◌, ◌∷◌, [], cond, map, length, ap, subst, sym, ◌∙◌, arith}
 use Rattle.std.proofs.lemmas.List.{take_all}
 use Rattle.lid_base.proofs.Places.{item_read, get_map}
 use Rattle.lid_design.specs.declared.Bind.{Bind}

@@ -1,4 +1,4 @@
-use Rattle.std.proofs.Common.{◌≡◌, ℕ, Bool, cond, ◌∷◌, [], ◌++◌, get_or, sym, subst, arith}
+use Rattle.std.proofs.Common.{◌≡◌, Bool, cond, ◌∷◌, [], ◌++◌, get_or, sym, subst, arith}
 use Rattle.std.proofs.lemmas.Grind.{common_steps}
 use Rattle.std.proofs.lemmas.Option.{slice_get-get_or}
 use Rattle.lid_check_table.specs.Tables.{Appends}

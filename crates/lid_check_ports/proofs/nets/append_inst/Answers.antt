@@ -1,4 +1,4 @@
-use Rattle.std.proofs.Common.{ℕ, List, map, length, sym, ◌∙◌, ap, subst}
+use Rattle.std.proofs.Common.{List, map, length, sym, ◌∙◌, ap, subst}
 use Rattle.lid_base.proofs.Results.{on_ok}
 use Rattle.lid_design.specs.declared.Bind.{Bind}
 use Rattle.lid_design.specs.Models.{actual_of}

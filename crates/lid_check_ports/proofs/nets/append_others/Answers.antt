@@ -1,4 +1,4 @@
-use Rattle.std.proofs.Common.{ℕ, Bool, List, ◌<◌, ◌≤◌, ◌∷◌, [], cond, not, filter, length, slice_get, ap, subst, sym, ◌∙◌, arith}
+use Rattle.std.proofs.Common.{ℕ, Bool, List, ◌<◌, ◌≤◌, ◌∷◌, [], cond, not, filter, length, ap, subst, ◌∙◌, arith}
 use Rattle.std.proofs.lemmas.List.{take_all}
 use Rattle.lid_base.proofs.Places.{item_read}
 use Rattle.lid_check_table.specs.Tables.{Appends}

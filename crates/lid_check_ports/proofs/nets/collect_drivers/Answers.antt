@@ -1,4 +1,4 @@
-use Rattle.std.proofs.Common.{ℕ, List, ◌≡◌, ◌++◌, map, slice_get, ◌∙◌, ap, subst, sym}
+use Rattle.std.proofs.Common.{◌++◌, ◌∙◌, subst, sym}
 use Rattle.lid_design.specs.Models.{port_drivers, inner_drivers, driver_names}
 use Rattle.lid_check_table.specs.Tables.{names_in, AreNumbersOf}
 use Rattle.lid_check_table.proofs.Appending.{begun_by, then_appended}

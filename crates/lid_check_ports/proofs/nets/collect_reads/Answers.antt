@@ -1,8 +1,7 @@
-use Rattle.std.proofs.Common.{◌++◌, flat_map, sym, ap, ◌∙◌, subst, append_assoc}
+use Rattle.std.proofs.Common.{◌++◌, flat_map, sym, subst}
 use Rattle.lid_base.proofs.Results.{if_ok}
 use Rattle.lid_design.specs.Models.{cell_reads, read_by, read_names}
 use Rattle.lid_check_table.specs.Tables.{names_in, AreNumbersOf}
-use Rattle.lid_check_table.specs.Marks.{marks_of}
 use Rattle.lid_check_table.proofs.Appending.{begun_by, then_appended}
 use Rattle.lid_check_ports.proofs.nets.collect_reads.Goals as goal
 
