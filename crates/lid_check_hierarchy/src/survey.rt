@@ -1,6 +1,7 @@
 ghost use Rattle.std.specs.Prelude.{◌≡◌, ◌⊎◌, ◌<◌, ◌^◌, ℕ, Option, Some, length, position, slice_get, IfOk, OnOk, IfErr, IsSome, option_map, List};
 ghost use denote.Ref.{Bor};
 ghost use Rattle.std.specs.Str.{bytes_eq};
+ghost use Rattle.lid_design.specs.Columns.{is_among};
 ghost use Rattle.lid_design.specs.Models.{IsReached, HasNoRecursion, insts_of, instance_number, is_clock_of, data_inputs_of, AreReached};
 ghost use Rattle.lid_design.specs.Elaboration.{model_nets};
 ghost use Rattle.lid_check_names.specs.Names.{texts};
@@ -187,7 +188,15 @@ impl<'d> Survey<'d> {
         requires { IsReached self.now model }
         ensures { result ≡ is_clock_of self.now model name.now }
     {
-        self.names.clocks.as_slice()[model as usize].has(name)
+        self.clocks_of(model).has(name)
+    }
+
+    /// The clock names of a reached model.
+    pub fn clocks_of(&self, model: u32) -> &NameSet<'d>
+        requires { IsReached self.now model }
+        ensures { (name : List ℕ) → is_among name result.now ≡ is_clock_of self.now model name }
+    {
+        &self.names.clocks.as_slice()[model as usize]
     }
 
     /// The nets of a reached model: its names that are no clock names.

@@ -1,5 +1,7 @@
 //! Where the hashes of a set begin.
 
+ghost use Rattle.std.specs.Prelude.{◌≤◌, ◌+◌, length};
+
 use std::hash::{BuildHasher, DefaultHasher, FoldHasher, Hasher};
 
 /// The number of names below which all sets hash alike: a walk over so many costs little.
@@ -40,11 +42,39 @@ impl Hashers {
     }
 }
 
-/// A sum of all bytes of some names.
+/// A sum of all bytes of some names, by whole words.
 fn sum_of(names: &[&[u8]]) -> u64 {
     let mut sum = DefaultHasher::new();
     for name in names {
-        sum.write(name);
+        add_name(&mut sum, name);
     }
     sum.finish()
+}
+
+/// Adds the bytes of a name to a sum: words of eight bytes, and one of those that are left.
+fn add_name(sum: &mut DefaultHasher, name: &[u8]) {
+    let words = name.len() / 8;
+    for i in 0..words {
+        sum.write_u64(half_at(name, 8 * i) | half_at(name, 8 * i + 4) << 32);
+    }
+    sum.write_u64(short_word(&name[8 * words..]));
+}
+
+/// Fewer than eight bytes as one number, by reads that may overlap.
+fn short_word(name: &[u8]) -> u64 {
+    let len = name.len();
+    if len >= 4 {
+        half_at(name, 0) | half_at(name, len - 4) << 32
+    } else if len > 0 {
+        name[0] as u64 | (name[len / 2] as u64) << 8 | (name[len - 1] as u64) << 16
+    } else {
+        0
+    }
+}
+
+/// Four bytes as one number.
+fn half_at(name: &[u8], at: usize) -> u64
+    requires { at + 4 ≤ length name.now }
+{
+    u32::from_le_bytes([name[at], name[at + 1], name[at + 2], name[at + 3]]) as u64
 }

@@ -1,4 +1,4 @@
-ghost use Rattle.std.specs.Prelude.{◌≡◌, ℕ, List, ◌<◌, ◌^◌, [], ◌∷◌, ◌++◌, not, if◌then◌else◌, length, position, slice_get, option_map, IfOk, OnOk};
+ghost use Rattle.std.specs.Prelude.{◌≡◌, ℕ, List, ◌<◌, ◌^◌, [], ◌∷◌, ◌++◌, not, if◌then◌else◌, length, position, slice_get, option_map, Some, IfOk, OnOk};
 ghost use denote.Ref.{Bor};
 ghost use Rattle.std.specs.Str.{bytes_eq};
 ghost use Rattle.lid_design.specs.Models.{is_twice};
@@ -43,6 +43,13 @@ impl<'a> NameSet<'a> {
         }
     }
 
+    /// A set without names, that is to take those of a list.
+    pub fn for_names(alloc: Global, names: &[&[u8]]) -> NameSet<'a>
+        ensures { result ≡ [] }
+    {
+        NameSet::by(alloc, Hashers::of(names))
+    }
+
     /// A set of the names of a list.
     pub fn collect(alloc: Global, names: &[&'a [u8]]) -> Result<NameSet<'a>, AllocError>
         ensures { IfOk result (λ set. set ≡ firsts (texts names.now)) }
@@ -60,6 +67,14 @@ impl<'a> NameSet<'a> {
         ensures added { OnOk result (self.new ≡ with_name self.old name.now) }
     {
         add_to(&mut self.names, name)
+    }
+
+    /// Adds a name after the others, unless it is there already, and answers its place.
+    pub fn enter(&mut self, name: &'a [u8]) -> Result<usize, AllocError>
+        ensures place { IfOk result (λ place. slice_get self.new place ≡ Some name.now) }
+        ensures added { OnOk result (self.new ≡ with_name self.old name.now) }
+    {
+        enter_in(&mut self.names, name)
     }
 
     /// Whether a name is in the set.
@@ -145,6 +160,18 @@ fn add_to<'a>(set: &mut IndexSet<HeldName<'a>, Hashers>, name: &'a [u8]) -> Resu
 {
     let (_, new) = set.insert_full(HeldName { bytes: name })?;
     Ok(new)
+}
+
+/// Adds a name after the others, unless it is there already, and answers its place.
+fn enter_in<'a>(
+    set: &mut IndexSet<HeldName<'a>, Hashers>,
+    name: &'a [u8],
+) -> Result<usize, AllocError>
+    ensures place { IfOk result (λ place. slice_get (names_of set.new) place ≡ Some name.entry.now) }
+    ensures added { OnOk result (names_of set.new ≡ with_name (names_of set.old) name.entry.now) }
+{
+    let (place, _) = set.insert_full(HeldName { bytes: name })?;
+    Ok(place)
 }
 
 /// Whether a name is in a set.

@@ -1,14 +1,15 @@
 -- Sets of the names of lists, and lists by tests that agree.
-use Rattle.std.proofs.Common.{◌≡◌, ℕ, zero, suc, nat_lt, count_by, ◌++◌, arith, Bool, true, false, ◌||◌, ◌&&◌, cond, List, [], ◌∷◌, filter, find, Option, Some, slice_get, slice_index_or, refl, sym, ◌∙◌, ap}
+use Rattle.std.proofs.Common.{◌≡◌, ℕ, zero, suc, Bool, true, false, not, ◌||◌, ◌&&◌, cond, List, [], ◌∷◌, filter, find, Option, Some, slice_get, slice_index_or, refl, sym, ◌∙◌, ap}
 use Rattle.std.specs.Option.{option_map_or}
-use Rattle.std.proofs.Math.Bool.{and-false, or_comm}
+use Rattle.std.proofs.Math.Bool.{and-false}
 use Rattle.std.specs.Str.{bytes_eq}
 use Rattle.lid_base.proofs.Lists.{same_bytes}
 use Rattle.lid_design.specs.declared.Design.{Design}
 use Rattle.lid_design.specs.declared.Model.{Model}
-use Rattle.lid_check_names.specs.Names.{is_among, IsTally}
-use Rattle.lid_check_names.proofs.Lists.{is_among_firsts, is_among_append, count_append}
+use Rattle.lid_check_names.specs.Names.{is_among}
+use Rattle.lid_check_names.proofs.Lists.{is_among_firsts}
 use Rattle.lid_check_ports.specs.declared.ports.Port.{Port}
+use Rattle.lid_check_ports.specs.declared.ports.Port.TheVariants.{Input}
 use Rattle.lid_check_ports.specs.Ports.{names_in, sets_in, is_in}
 
 -- what the set of a number has
@@ -44,15 +45,7 @@ is_among_filter p n (x ∷ xs) = by (p x) refl (bytes_eq n x) refl (is_among_fil
         later ∙ ap (λ (a : Bool). is_among n xs && a) left ∙ and-false (is_among n xs) ∙ sym (ap (λ (a : Bool). (a || is_among n xs) && p n) h ∙ left)
     by false e false h later = later ∙ sym (ap (λ (a : Bool). (a || is_among n xs) && p n) h)
 
--- names are tallied alike in whatever order two lists of them are joined
-pub tally_swapped : (xs ys all twice : List (List ℕ)) → IsTally (xs ++ ys) all twice → IsTally (ys ++ xs) all twice
-tally_swapped xs ys all twice tally = record { each = λ n. tally.each n ∙ among n; again = λ n. tally.again n ∙ ap (nat_lt 1) (counted n) }
-  where
-    among : (n : List ℕ) → is_among n (xs ++ ys) ≡ is_among n (ys ++ xs)
-    among n = is_among_append n xs ys ∙ or_comm (is_among n xs) (is_among n ys) ∙ sym (is_among_append n ys xs)
-
-    counted : (n : List ℕ) → count_by (bytes_eq n) (xs ++ ys) ≡ count_by (bytes_eq n) (ys ++ xs)
-    counted n =
-        let left = count_append n xs ys in
-        let right = count_append n ys xs in
-        omega arith
+-- the names that are no inputs of a model, by its number
+pub in_here : (d : Design) (k : ℕ) (m : Model) → slice_get d.models k ≡ Some m → (names : List (List ℕ)) → filter (λ net. not (is_in d Input k net)) names ≡ filter (λ net. not (is_among net m.inputs)) names
+in_here d k m here names =
+    ap (λ (o : Option Model). filter (λ net. not (option_map_or (λ m. is_among net m.inputs) o false)) names) here

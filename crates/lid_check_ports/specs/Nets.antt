@@ -1,10 +1,11 @@
--- How what is driven and read in a model is found, as sets of names.
+-- How what is driven and read in a model is found, by the numbers of its names.
 use Rattle.std.specs.Prelude.{◌≡◌, ℕ, Bool, not, ◌&&◌, List, map, filter, Some, slice_get}
 use Rattle.lid_design.specs.declared.Design.{Design}
 use Rattle.lid_design.specs.declared.Inst.{Inst}
 use Rattle.lid_design.specs.declared.Bind.{Bind}
-use Rattle.lid_design.specs.Columns.{is_among}
-use Rattle.lid_design.specs.Models.{is_clock_of, actual_of, driven_by, read_by, driver_names, inner_drivers, read_names, is_twice}
+use Rattle.lid_design.specs.Models.{is_clock_of, actual_of, driven_by, read_by, driver_names, inner_drivers, read_names}
+use Rattle.lid_check_table.specs.Tables.{names_in}
+use Rattle.lid_check_table.specs.Marks.{marks_of, again_of}
 use Rattle.lid_check_ports.specs.declared.ports.Port.TheVariants.{Input, Output}
 use Rattle.lid_check_ports.specs.declared.nets.Nets.{Nets}
 use Rattle.lid_check_ports.specs.declared.nets.Side.{Side}
@@ -27,8 +28,8 @@ nets_on Read d inst = read_by d inst
 
 -- what is driven and read in the model of a number
 pub record AreNets (d : Design) (k : ℕ) (nets : Nets) : Type 0 where
-  pub here : slice_get d.models k ≡ Some nets.model.now
-  pub driven : (net : List ℕ) → is_among net nets.drivers.all.all ≡ is_among net (driver_names d nets.model.now)
-  pub again : (net : List ℕ) → is_among net nets.drivers.all.twice ≡ is_twice (driver_names d nets.model.now) net
-  pub within : (net : List ℕ) → is_among net nets.drivers.inner ≡ is_among net (inner_drivers d nets.model.now)
-  pub read : (net : List ℕ) → is_among net nets.reads ≡ is_among net (read_names d nets.model.now)
+  pub here : slice_get d.models k ≡ Some nets.table
+  pub driven : nets.drivers.all.all ≡ marks_of (names_in nets.table) (driver_names d nets.table)
+  pub again : nets.drivers.all.twice ≡ again_of (names_in nets.table) (driver_names d nets.table)
+  pub within : nets.drivers.inner ≡ marks_of (names_in nets.table) (inner_drivers d nets.table)
+  pub read : nets.reads ≡ marks_of (names_in nets.table) (read_names d nets.table)

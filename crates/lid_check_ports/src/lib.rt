@@ -1,5 +1,5 @@
 //! The lists of the models of a design as sets of names, the formals that instances bind, and the
-//! nets that are driven and read in a model.
+//! nets that are driven and read in a model, by their numbers.
 #![tactic(auto)]
 
 mod formals;

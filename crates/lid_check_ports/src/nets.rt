@@ -1,15 +1,16 @@
-ghost use Rattle.std.specs.Prelude.{◌≡◌, ◌<◌, ◌^◌, ◌++◌, Some, not, map, filter, flat_map, length, slice_get, IfOk, OnOk};
-ghost use Rattle.lid_design.specs.Models.{IsReached, insts_of, driver_names, inner_drivers, read_names, port_drivers, firsts};
-ghost use Rattle.lid_check_names.specs.Names.{texts, IsTally};
+ghost use Rattle.std.specs.Prelude.{◌≡◌, ◌<◌, ◌^◌, ◌++◌, [], ◌∷◌, ℕ, List, Some, not, if◌then◌else◌, map, filter, flat_map, length, slice_get, IfOk, OnOk};
+ghost use Rattle.lid_design.specs.Models.{IsReached, insts_of, driver_names, inner_drivers, read_names, port_drivers, actual_names, actual_of};
+ghost use Rattle.lid_check_names.specs.Names.{texts};
+ghost use Rattle.lid_check_table.specs.Tables.{names_in, AreNumbersOf, Appends};
+ghost use Rattle.lid_check_table.specs.Marks.{marks_of, again_of};
 ghost use Rattle.lid_check_ports.specs.declared.ports.Port.TheVariants.{Input};
 ghost use Rattle.lid_check_ports.specs.Ports.{is_in};
 ghost use Rattle.lid_check_ports.specs.Nets.{AreNets, is_on, actuals_on, nets_on};
 
 use crate::ports::{Port, Ports};
-use lid_base::Name;
-use lid_check_names::{
-    NameSet, NameTally, push_name, push_names, push_outs, push_reads, tally_names,
-};
+use lid_base::{Items, Name};
+use lid_check_names::push_names;
+use lid_check_table::{MarkTally, Table, mark_names, tally_marks};
 use lid_design::{Bind, Inst, Model};
 use std::alloc::{AllocError, Global};
 
@@ -22,22 +23,29 @@ pub enum Side {
     Read,
 }
 
-/// What is driven and read in a model.
+/// What is driven and read in a model, by the numbers of its names.
 #[derive(Drop)]
 pub struct Nets<'d> {
-    pub model: &'d Model,
-    pub drivers: Drivers<'d>,
-    /// The nets that are read.
-    pub reads: NameSet<'d>,
+    pub table: Table<'d>,
+    pub drivers: Drivers,
+    /// For each name, whether it is read.
+    pub reads: Items<bool>,
 }
 
 /// What is driven in a model.
 #[derive(Drop)]
-pub struct Drivers<'d> {
-    /// The nets that are driven, and those that are driven more than once.
-    pub all: NameTally<'d>,
-    /// The nets that cells and instances drive.
-    pub inner: NameSet<'d>,
+pub struct Drivers {
+    /// For each name, whether it is driven, and whether it is driven more than once.
+    pub all: MarkTally,
+    /// For each name, whether cells or instances drive it.
+    pub inner: Items<bool>,
+}
+
+/// An instance, with the numbers of its actuals.
+#[derive(Clone, Copy)]
+struct Numbered<'a> {
+    inst: &'a Inst,
+    actuals: &'a [u32],
 }
 
 /// Finds what is driven and read in a model.
@@ -50,73 +58,222 @@ pub fn collect_nets<'d>(
     requires reached { IsReached ports.now k }
     requires model { slice_get ports.now.models k ≡ Some model.now }
     requires few { length model.now.insts < 2 ^ 32 }
-    ensures { IfOk result (λ nets. (nets.model.now ≡ model.now) × AreNets ports.now k nets) }
+    ensures { IfOk result (λ nets. (nets.table ≡ model.now) × AreNets ports.now k nets) }
 {
-    let drivers = collect_drivers(alloc, ports, k, model)?;
-    let reads = collect_reads(alloc, ports, k, model)?;
+    let table = Table::collect(alloc, model)?;
+    let drivers = collect_drivers(alloc, ports, k, &table)?;
+    let reads = collect_reads(alloc, ports, k, &table)?;
     Ok(Nets {
-        model,
+        table,
         drivers,
         reads,
     })
 }
 
 /// The nets that are driven in a model.
-#[tactic(auto, unfolding(lid_design::specs::Models::driver_names))]
-fn collect_drivers<'d>(
+fn collect_drivers(
     alloc: Global,
-    ports: &Ports<'d>,
+    ports: &Ports<'_>,
     k: u32,
-    model: &'d Model,
-) -> Result<Drivers<'d>, AllocError>
+    table: &Table<'_>,
+) -> Result<Drivers, AllocError>
     requires reached { IsReached ports.now k }
-    requires model { slice_get ports.now.models k ≡ Some model.now }
-    requires few { length model.now.insts < 2 ^ 32 }
-    ensures all { IfOk result (λ drivers. IsTally (driver_names ports.now model.now) drivers.all.all drivers.all.twice) }
-    ensures inner { IfOk result (λ drivers. drivers.inner ≡ firsts (inner_drivers ports.now model.now)) }
+    requires model { slice_get ports.now.models k ≡ Some table.now }
+    requires few { length table.now.insts < 2 ^ 32 }
+    ensures all { IfOk result (λ drivers. drivers.all.all ≡ marks_of (names_in table.now) (driver_names ports.now table.now)) }
+    ensures twice { IfOk result (λ drivers. drivers.all.twice ≡ again_of (names_in table.now) (driver_names ports.now table.now)) }
+    ensures inner { IfOk result (λ drivers. drivers.inner ≡ marks_of (names_in table.now) (inner_drivers ports.now table.now)) }
 {
     let mut list = Vec::new(alloc);
-    push_inner(&mut list, ports, k, model)?;
-    let inner = NameSet::collect(alloc, list.as_slice())?;
-    push_port_drivers(&mut list, ports, k, model)?;
-    let all = tally_names(alloc, list.as_slice())?;
+    append_inner(&mut list, ports, k, table)?;
+    let inner = mark_names(alloc, table, list.as_slice())?;
+    append_ports(&mut list, ports, k, table)?;
+    let all = tally_marks(alloc, table, list.as_slice())?;
     Ok(Drivers { all, inner })
 }
 
 /// The nets that are read in a model.
-#[tactic(auto, unfolding(lid_design::specs::Models::read_names))]
-fn collect_reads<'d>(
+fn collect_reads(
     alloc: Global,
-    ports: &Ports<'d>,
+    ports: &Ports<'_>,
     k: u32,
-    model: &'d Model,
-) -> Result<NameSet<'d>, AllocError>
+    table: &Table<'_>,
+) -> Result<Items<bool>, AllocError>
     requires reached { IsReached ports.now k }
-    requires model { slice_get ports.now.models k ≡ Some model.now }
-    requires few { length model.now.insts < 2 ^ 32 }
-    ensures { IfOk result (λ set. set ≡ firsts (read_names ports.now model.now)) }
+    requires model { slice_get ports.now.models k ≡ Some table.now }
+    requires few { length table.now.insts < 2 ^ 32 }
+    ensures { IfOk result (λ marks. marks ≡ marks_of (names_in table.now) (read_names ports.now table.now)) }
 {
     let mut list = Vec::new(alloc);
-    push_reads(&mut list, model.cells.as_slice())?;
-    push_nets(&mut list, ports, Side::Read, k, model.insts.as_slice())?;
-    push_names(&mut list, model.outputs.as_slice())?;
-    NameSet::collect(alloc, list.as_slice())
+    append_all(&mut list, table.reads())?;
+    append_nets(&mut list, ports, Side::Read, k, table)?;
+    append_all(&mut list, table.outputs())?;
+    mark_names(alloc, table, list.as_slice())
+}
+
+/// Appends numbers.
+fn append_all(list: &mut Vec<u32>, numbers: &[u32]) -> Result<(), AllocError>
+    ensures { OnOk result ((names own : List (List ℕ)) → AreNumbersOf names own numbers.now → Appends names list.old.items list.new.items own) }
+{
+    list.extend_from_slice(numbers)?;
+    Ok(())
+}
+
+/// Appends the number at a place, where it is wanted.
+fn append_at(
+    list: &mut Vec<u32>,
+    numbers: &[u32],
+    place: usize,
+    wanted: bool,
+) -> Result<(), AllocError>
+    requires { place < length numbers.now }
+    ensures { OnOk result ((names own : List (List ℕ)) (name : List ℕ) → AreNumbersOf names own numbers.now → slice_get own place ≡ Some name → Appends names list.old.items list.new.items (if wanted then name ∷ [] else [])) }
+{
+    if !wanted {
+        return Ok(());
+    }
+    let number = numbers[place];
+    list.push(number)?;
+    Ok(())
 }
 
 /// Appends what cells and instances of a model drive.
-fn push_inner<'d>(
-    list: &mut Vec<&'d [u8]>,
-    ports: &Ports<'d>,
+fn append_inner(
+    list: &mut Vec<u32>,
+    ports: &Ports<'_>,
     k: u32,
-    model: &'d Model,
+    table: &Table<'_>,
 ) -> Result<(), AllocError>
     requires reached { IsReached ports.now k }
-    requires model { slice_get ports.now.models k ≡ Some model.now }
-    requires few { length model.now.insts < 2 ^ 32 }
-    ensures { OnOk result (texts list.new.items ≡ texts list.old.items ++ inner_drivers ports.now model.now) }
+    requires model { slice_get ports.now.models k ≡ Some table.now }
+    requires few { length table.now.insts < 2 ^ 32 }
+    ensures { OnOk result (Appends (names_in table.now) list.old.items list.new.items (inner_drivers ports.now table.now)) }
 {
-    push_outs(list, model.cells.as_slice())?;
-    push_nets(list, ports, Side::Driven, k, model.insts.as_slice())
+    append_all(list, table.outs())?;
+    append_nets(list, ports, Side::Driven, k, table)
+}
+
+/// Appends what the lists of a model drive: a name of both lists once.
+fn append_ports(
+    list: &mut Vec<u32>,
+    ports: &Ports<'_>,
+    k: u32,
+    table: &Table<'_>,
+) -> Result<(), AllocError>
+    requires { slice_get ports.now.models k ≡ Some table.now }
+    ensures { OnOk result (Appends (names_in table.now) list.old.items list.new.items (port_drivers table.now)) }
+{
+    append_all(list, table.inputs())?;
+    append_others(
+        list,
+        ports,
+        k,
+        table.model().clocks.as_slice(),
+        table.clocks(),
+    )
+}
+
+/// Appends the numbers of those of some names that are no inputs of a model.
+fn append_others(
+    list: &mut Vec<u32>,
+    ports: &Ports<'_>,
+    k: u32,
+    names: &[Name],
+    numbers: &[u32],
+) -> Result<(), AllocError>
+    requires { length numbers.now ≡ length names.now }
+    ensures { OnOk result ((all : List (List ℕ)) → AreNumbersOf all names.now numbers.now → Appends all list.old.items list.new.items (filter (λ net. not (is_in ports.now Input k net)) names.now)) }
+{
+    for i in 0..names.len() {
+        let wanted = !ports.has(Port::Input, k, names[i].as_slice());
+        append_at(list, numbers, i, wanted)?;
+    }
+    Ok(())
+}
+
+/// Appends the nets that instances of a model drive, or read.
+fn append_nets(
+    list: &mut Vec<u32>,
+    ports: &Ports<'_>,
+    side: Side,
+    model: u32,
+    table: &Table<'_>,
+) -> Result<(), AllocError>
+    requires reached { IsReached ports.now model }
+    requires insts { insts_of ports.now model ≡ table.now.insts }
+    requires few { length table.now.insts < 2 ^ 32 }
+    ensures { OnOk result (Appends (names_in table.now) list.old.items list.new.items (flat_map (nets_on side ports.now) table.now.insts)) }
+{
+    let insts = table.model().insts.as_slice();
+    let mut left = table.actuals();
+    for i in 0..insts.len() {
+        let inst = &insts[i];
+        let (actuals, rest) = left.split_at(inst.binds.len());
+        append_inst(
+            list,
+            ports,
+            side,
+            model,
+            i as u32,
+            Numbered { inst, actuals },
+        )?;
+        left = rest;
+    }
+    Ok(())
+}
+
+/// Appends the nets that an instance of a model drives, or reads.
+fn append_inst(
+    list: &mut Vec<u32>,
+    ports: &Ports<'_>,
+    side: Side,
+    model: u32,
+    i: u32,
+    numbered: Numbered<'_>,
+) -> Result<(), AllocError>
+    requires reached { IsReached ports.now model }
+    requires inst { slice_get (insts_of ports.now model) i ≡ Some numbered.inst.now }
+    requires whole { length numbered.actuals.now ≡ length numbered.inst.now.binds }
+    ensures { OnOk result ((names : List (List ℕ)) → AreNumbersOf names (actual_names numbered.entry.inst.now) numbered.entry.actuals.now → Appends names list.old.items list.new.items (nets_on side ports.now numbered.entry.inst.now)) }
+{
+    match ports.model_of(model, i) {
+        Some(sub) => {
+            let binds = numbered.inst.binds.as_slice();
+            append_actuals(list, ports, side, sub, binds, numbered.actuals)
+        }
+        None => Ok(()),
+    }
+}
+
+/// Appends the actuals that bindings to formals of a model drive, or read.
+fn append_actuals(
+    list: &mut Vec<u32>,
+    ports: &Ports<'_>,
+    side: Side,
+    sub: u32,
+    binds: &[Bind],
+    actuals: &[u32],
+) -> Result<(), AllocError>
+    requires reached { IsReached ports.now sub }
+    requires whole { length actuals.now ≡ length binds.now }
+    ensures { OnOk result ((names : List (List ℕ)) → AreNumbersOf names (map actual_of binds.now) actuals.now → Appends names list.old.items list.new.items (actuals_on side ports.now sub binds.now)) }
+{
+    for i in 0..binds.len() {
+        let wanted = is_on(ports, side, sub, binds[i].formal.as_slice());
+        append_at(list, actuals, i, wanted)?;
+    }
+    Ok(())
+}
+
+/// Whether a binding to a formal of a model drives the actual, or reads it.
+fn is_on(ports: &Ports<'_>, side: Side, sub: u32, formal: &[u8]) -> bool
+    requires { IsReached ports.now sub }
+    ensures { result ≡ is_on side ports.now sub formal.now }
+{
+    match side {
+        Side::Driven => ports.has(Port::Output, sub, formal),
+        Side::Read => ports.has(Port::Input, sub, formal) && !ports.survey().is_clock(sub, formal),
+    }
 }
 
 /// Appends what the lists of a model drive: a name of both lists once.
@@ -149,72 +306,4 @@ fn push_others<'d>(
         }
     }
     Ok(())
-}
-
-/// Appends the nets that instances of a model drive, or read.
-fn push_nets<'d>(
-    list: &mut Vec<&'d [u8]>,
-    ports: &Ports<'d>,
-    side: Side,
-    model: u32,
-    insts: &'d [Inst],
-) -> Result<(), AllocError>
-    requires reached { IsReached ports.now model }
-    requires insts { insts_of ports.now model ≡ insts.now }
-    requires few { length insts.now < 2 ^ 32 }
-    ensures { OnOk result (texts list.new.items ≡ texts list.old.items ++ flat_map (nets_on side ports.now) insts.now) }
-{
-    for i in 0..insts.len() {
-        push_inst(list, ports, side, model, i as u32, &insts[i])?;
-    }
-    Ok(())
-}
-
-/// Appends the nets that an instance of a model drives, or reads.
-fn push_inst<'d>(
-    list: &mut Vec<&'d [u8]>,
-    ports: &Ports<'d>,
-    side: Side,
-    model: u32,
-    i: u32,
-    inst: &'d Inst,
-) -> Result<(), AllocError>
-    requires reached { IsReached ports.now model }
-    requires inst { slice_get (insts_of ports.now model) i ≡ Some inst.now }
-    ensures { OnOk result (texts list.new.items ≡ texts list.old.items ++ nets_on side ports.now inst.now) }
-{
-    match ports.model_of(model, i) {
-        Some(sub) => push_actuals(list, ports, side, sub, inst.binds.as_slice()),
-        None => Ok(()),
-    }
-}
-
-/// Appends the actuals that bindings to formals of a model drive, or read.
-fn push_actuals<'d>(
-    list: &mut Vec<&'d [u8]>,
-    ports: &Ports<'d>,
-    side: Side,
-    sub: u32,
-    binds: &'d [Bind],
-) -> Result<(), AllocError>
-    requires { IsReached ports.now sub }
-    ensures { OnOk result (texts list.new.items ≡ texts list.old.items ++ actuals_on side ports.now sub binds.now) }
-{
-    for bind in binds {
-        if is_on(ports, side, sub, bind.formal.as_slice()) {
-            push_name(list, &bind.actual)?;
-        }
-    }
-    Ok(())
-}
-
-/// Whether a binding to a formal of a model drives the actual, or reads it.
-fn is_on(ports: &Ports<'_>, side: Side, sub: u32, formal: &[u8]) -> bool
-    requires { IsReached ports.now sub }
-    ensures { result ≡ is_on side ports.now sub formal.now }
-{
-    match side {
-        Side::Driven => ports.has(Port::Output, sub, formal),
-        Side::Read => ports.has(Port::Input, sub, formal) && !ports.survey().is_clock(sub, formal),
-    }
 }

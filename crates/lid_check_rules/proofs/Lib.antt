@@ -1,4 +1,5 @@
 pub mod Sets
+pub mod Clocking
 pub mod Telling
 pub mod Roots
 pub mod Faults

@@ -1,12 +1,18 @@
 -- First items of lists, and what holds of all items.
-use Rattle.std.proofs.Common.{◌≡◌, ℕ, Bool, true, false, not, ◌&&◌, ◌||◌, cond, List, [], ◌∷◌, ◌++◌, ◌+◌, ◌<◌, zero, suc, length, map, find, Option, Some, None, option_map, slice_get, drop, refl, sym, ap, ◌∙◌, arith}
+use Rattle.std.proofs.Common.{◌≡◌, ℕ, Bool, true, false, not, ◌&&◌, ◌||◌, cond, List, [], ◌∷◌, ◌++◌, ◌+◌, ◌<◌, zero, suc, length, map, filter, find, Option, Some, None, option_map, option_and_then, position, slice_get, drop, refl, sym, ap, ◌∙◌, arith}
 use Rattle.std.specs.List.{list_all}
 use Rattle.std.specs.Option.{option_or}
 use Rattle.std.specs.Str.{bytes_eq}
 use Rattle.std.proofs.lemmas.List.Folds.{find-append}
-use Rattle.std.proofs.lemmas.Option.{none-some}
+use Rattle.std.proofs.lemmas.List.{drop_more}
+use Rattle.std.proofs.lemmas.Option.{none-some, same_Some, get_or_from_slice_get}
 use Rattle.lid_base.proofs.Lists.{same_bytes}
+use Rattle.lid_base.proofs.Places.{item_at}
 use Rattle.lid_design.specs.Columns.{is_among}
+use Rattle.lid_design.specs.Models.{firsts}
+use Rattle.lid_check_names.proofs.Lists.{differs}
+use Rattle.lid_check_names.proofs.Numbers.{position_below}
+use Rattle.lid_check_hierarchy.proofs.Fixpoints.{find_position}
 
 pub find_map : {A B C : Type 0} (f : B → C) (p : B → Bool) (g : A → B) (xs : List A) → option_map (λ a. f (g a)) (find (λ a. p (g a)) xs) ≡ option_map f (find p (map g xs))
 find_map f p g [] = refl
@@ -55,16 +61,6 @@ find_within p xs ys within = find-append p xs ys ∙ by (find p xs) refl
     by (Some n) e = ap (λ (o : Option (List ℕ)). option_or o (find p ys)) e ∙ sym e
     by None e = ap (λ (o : Option (List ℕ)). option_or o (find p ys)) e ∙ none e ys ∙ sym e
 
--- no name is in an empty list
-pub none_among : (names : List (List ℕ)) → length names ≡ 0 → (n : List ℕ) → is_among n names ≡ false
-none_among [] empty n = refl
-none_among (x ∷ xs) empty n = absurd (omega arith)
-
--- what is asked only where something holds that brings it
-pub asked_and_held : (asked held : Bool) → (asked ≡ true → held ≡ true) → (asked && not held) ≡ false
-asked_and_held true held brings = ap not (brings refl)
-asked_and_held false held brings = refl
-
 -- what holds of all items from a place on, by the item there
 pub all_from : {A : Type 0} (p : A → Bool) (xs : List A) (i : ℕ) (b : Bool) → i < length xs → ((x : A) → slice_get xs i ≡ Some x → b ≡ p x) → list_all p (drop i xs) ≡ (b && list_all p (drop (i + 1) xs))
 all_from p [] i b within is = absurd (omega arith)
@@ -72,3 +68,47 @@ all_from p (x ∷ xs) zero b within is = ap (λ (c : Bool). c && list_all p xs) 
 all_from p (x ∷ xs) (suc i) b within is =
     let next : suc (i + 1) ≡ suc i + 1 = omega arith in
     all_from p xs i b (omega arith) is ∙ ap (λ (j : ℕ). b && list_all p (drop j (x ∷ xs))) next
+
+-- what is found from a place on, by the item there
+pub find_from : {A : Type 0} (p : A → Bool) (xs : List A) (i : ℕ) (x : A) → i < length xs → slice_get xs i ≡ Some x → find p (drop i xs) ≡ cond (p x) (Some x) (find p (drop (i + 1) xs))
+find_from p xs i x below here = ap (find p) (drop_more xs i x below ∙ ap (λ y. y ∷ drop (i + 1) xs) (get_or_from_slice_get xs i x x here))
+
+-- names without x, of which something does not hold, have the same first one
+find_without : (p : List ℕ → Bool) (x : List ℕ) (ys : List (List ℕ)) → p x ≡ false → find p (filter (differs x) ys) ≡ find p ys
+find_without p x [] other = refl
+find_without p x (y ∷ ys) other = by (bytes_eq y x) refl (find_without p x ys other)
+  where
+    by : (b : Bool) → bytes_eq y x ≡ b → find p (filter (differs x) ys) ≡ find p ys → find p (cond (not b) (y ∷ filter (differs x) ys) (filter (differs x) ys)) ≡ cond (p y) (Some y) (find p ys)
+    by true same later =
+        let never : p y ≡ false = ap p (same_bytes y x same) ∙ other in
+        later ∙ sym (ap (λ (a : Bool). cond a (Some y) (find p ys)) never)
+    by false apart later = ap (λ (o : Option (List ℕ)). cond (p y) (Some y) o) later
+
+-- the first name of which something holds is found where each name is asked once
+pub find_firsts : (p : List ℕ → Bool) (xs : List (List ℕ)) → find p xs ≡ find p (firsts xs)
+find_firsts p [] = refl
+find_firsts p (x ∷ xs) = by (p x) refl (find_firsts p xs)
+  where
+    by : (a : Bool) → p x ≡ a → find p xs ≡ find p (firsts xs) → cond (p x) (Some x) (find p xs) ≡ cond (p x) (Some x) (find p (filter (differs x) (firsts xs)))
+    by true e later = ap (λ (b : Bool). cond b (Some x) (find p xs)) e ∙ sym (ap (λ (b : Bool). cond b (Some x) (find p (filter (differs x) (firsts xs)))) e)
+    by false e later = ap (λ (o : Option (List ℕ)). cond (p x) (Some x) o) (later ∙ sym (find_without p x (firsts xs) e))
+
+pub not_true : (b : Bool) → not b ≡ true → b ≡ false
+not_true true h = sym h
+not_true false h = refl
+
+-- what is found passes
+find_passes : {A : Type 0} (p : A → Bool) (xs : List A) (x : A) → find p xs ≡ Some x → p x ≡ true
+find_passes p [] x found = absurd (let f : None ≡ Some x = found in cc)
+find_passes {A} p (y ∷ ys) x found = by (p y) refl found (find_passes p ys x)
+  where
+    by : (b : Bool) → p y ≡ b → cond b (Some y) (find p ys) ≡ Some x → (find p ys ≡ Some x → p x ≡ true) → p x ≡ true
+    by true e here later = ap p (sym (same_Some y x here)) ∙ e
+    by false e here later = later here
+
+-- a name stands at the place where it is found
+pub found_there : (name : List ℕ) (names : List (List ℕ)) (i : ℕ) → position (bytes_eq name) names ≡ Some i → slice_get names i ≡ Some name
+found_there name names i at =
+    let item = item_at names i (position_below (bytes_eq name) names i at) in
+    let found = find_position (bytes_eq name) names ∙ ap (option_and_then (slice_get names)) at ∙ item.1 in
+    item.1 ∙ ap Some (sym (same_bytes name item.0 (find_passes (bytes_eq name) names item.0 found)))

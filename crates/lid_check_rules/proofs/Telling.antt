@@ -16,7 +16,8 @@ use Rattle.lid_check_ports.specs.Formals.{faulty_formal}
 use Rattle.lid_check_rules.specs.Names.{name_rule, name_at, by_names, told_by, first_by_rules, is_faulty, told_name}
 use Rattle.lid_check_rules.specs.declared.names.Findings.{Findings}
 use Rattle.lid_check_rules.proofs.Faults.{same_told}
-use Rattle.lid_check_rules.proofs.Sets.{find_map, find_none}
+use Rattle.lid_check_table.specs.Tables.{names_in}
+use Rattle.lid_check_rules.proofs.Sets.{find_map, find_none, find_firsts}
 
 map_then : {A B C : Type 0} (f : B → C) (g : A → Option B) (o : Option A) → option_and_then (λ a. option_map f (g a)) o ≡ option_map f (option_and_then g o)
 map_then f g None = refl
@@ -37,6 +38,10 @@ pub rule_by_name : (rule : NameRule) (d : Design) (m : Model) → name_rule rule
 rule_by_name TwoDrivers d m = refl
 rule_by_name Undriven d m = refl
 rule_by_name ClockUse d m = refl
+
+-- what a condition tells, where each name is asked once
+pub rule_by_first : (rule : NameRule) (d : Design) (m : Model) → name_rule rule d m ≡ option_map (told_name rule m.name) (find (is_faulty rule d m) (names_in m))
+rule_by_first rule d m = rule_by_name rule d m ∙ ap (option_map (told_name rule m.name)) (find_firsts (is_faulty rule d m) (occurrences m))
 
 -- where a condition is broken at no name it tells nothing
 pub rule_unbroken : (rule : NameRule) (d : Design) (m : Model) → ((name : List ℕ) → is_faulty rule d m name ≡ false) → name_rule rule d m ≡ None

@@ -1,18 +1,19 @@
-ghost use Rattle.std.specs.Prelude.{◌≡◌, ◌<◌, ◌^◌, ℕ, List, true, false, Some, None, find, map, length, slice_get, IfOk};
+ghost use Rattle.std.specs.Prelude.{◌≡◌, ◌||◌, not, ℕ, List, true, false, Some, None, map, slice_get, IfOk};
 ghost use Rattle.std.specs.List.{list_all};
-ghost use Rattle.lid_check_names.specs.Names.{texts, is_among};
-ghost use Rattle.lid_design.specs.Models.{IsReached, AreReached, occurrences};
+ghost use Rattle.lid_check_table.specs.Tables.{names_in};
+ghost use Rattle.lid_design.specs.Models.{IsReached, AreReached};
+ghost use Rattle.lid_check_ports.specs.declared.ports.Port.TheVariants.{Input, Clock};
+ghost use Rattle.lid_check_ports.specs.Ports.{is_in};
 ghost use Rattle.lid_check_ports.specs.Nets.{AreNets};
 ghost use Rattle.lid_check_rules.specs.declared.names.NameRule.{NameRule};
-ghost use Rattle.lid_check_rules.specs.Conditions.{first_told};
+ghost use Rattle.lid_check_rules.specs.Conditions.{first_told, is_undriven, is_misused};
 ghost use Rattle.lid_check_rules.specs.Names.{told_by, first_by_rules, name_rule, name_at, by_names, is_faulty, told_name};
-ghost use Rattle.lid_check_ports.specs.Formals.{name_behind};
 ghost use Rattle.lid_check_rules.specs.Told.{fault_of_told, shown_of};
 
 use crate::told::{NameFault, Told, first_of};
-use lid_check_names::{NameSet, list_occurrences};
+use lid_check_names::NameSet;
 use lid_check_ports::{Nets, Port, Ports, collect_nets};
-use lid_design::Model;
+use lid_check_table::is_marked;
 use std::alloc::{AllocError, Global};
 
 /// A condition that speaks of the names of a model.
@@ -117,44 +118,36 @@ fn findings_at<'d>(alloc: Global, ports: &Ports<'d>, k: u32) -> Result<Findings<
     let Some(model) = ports.model(k) else {
         return Ok(no_findings());
     };
-    let names = list_occurrences(alloc, model)?;
     let nets = collect_nets(alloc, ports, k, model)?;
-    Ok(tell_each(ports, k, &nets, names.as_slice()))
+    Ok(tell_each(ports, k, &nets))
 }
 
-/// What each condition on names tells of a model, by its names and what is driven and read in it.
-fn tell_each<'d>(ports: &Ports<'d>, k: u32, nets: &Nets<'d>, names: &[&'d [u8]]) -> Findings<'d>
+/// What each condition on names tells of a model, by what is driven and read in it.
+fn tell_each<'d>(ports: &Ports<'d>, k: u32, nets: &Nets<'d>) -> Findings<'d>
     requires reached { IsReached ports.now k }
     requires nets { AreNets ports.now k nets.now }
-    requires names { texts names.now ≡ occurrences nets.now.model.now }
-    ensures { (rule : NameRule) → told_by rule result ≡ name_rule rule ports.now nets.now.model.now }
+    ensures { (rule : NameRule) → told_by rule result ≡ name_rule rule ports.now nets.now.table }
 {
     Findings {
-        two_drivers: tell_first(ports, NameRule::TwoDrivers, k, nets, names),
-        undriven: tell_first(ports, NameRule::Undriven, k, nets, names),
-        clock_use: tell_first(ports, NameRule::ClockUse, k, nets, names),
+        two_drivers: tell_first(ports, NameRule::TwoDrivers, k, nets),
+        undriven: tell_first(ports, NameRule::Undriven, k, nets),
+        clock_use: tell_first(ports, NameRule::ClockUse, k, nets),
     }
 }
 
-/// Tells of the first name of a model at which a condition is broken.
-fn tell_first<'d>(
-    ports: &Ports<'d>,
-    rule: NameRule,
-    k: u32,
-    nets: &Nets<'d>,
-    names: &[&'d [u8]],
-) -> Option<Told<'d>>
+/// Tells of the first name of a model at which a condition is broken. The names are told apart by their
+/// numbers, which go by where each comes first.
+fn tell_first<'d>(ports: &Ports<'d>, rule: NameRule, k: u32, nets: &Nets<'d>) -> Option<Told<'d>>
     requires reached { IsReached ports.now k }
     requires nets { AreNets ports.now k nets.now }
-    requires names { texts names.now ≡ occurrences nets.now.model.now }
-    ensures { shown_of result ≡ name_rule rule ports.now nets.now.model.now }
+    ensures { shown_of result ≡ name_rule rule ports.now nets.now.table }
 {
     if is_unbroken(ports, rule, k, nets) {
         return None;
     }
-    for name in names {
-        if is_faulty(ports, rule, k, nets, name) {
-            return Some(tell_name(rule, nets.model.name.as_slice(), name));
+    for number in 0..nets.table.len() {
+        if is_faulty(ports, rule, k, nets, number) {
+            return tell_at(rule, nets, number);
         }
     }
     None
@@ -162,38 +155,71 @@ fn tell_first<'d>(
 
 /// Whether a condition is broken at no name of a model, where that is told without going over the names.
 fn is_unbroken(ports: &Ports<'_>, rule: NameRule, k: u32, nets: &Nets<'_>) -> bool
-    requires { AreNets ports.now k nets.now }
-    ensures { result ≡ true → (name : List ℕ) → is_faulty rule ports.now nets.now.model.now name ≡ false }
+    requires reached { IsReached ports.now k }
+    requires nets { AreNets ports.now k nets.now }
+    ensures { result ≡ true → (name : List ℕ) → is_faulty rule ports.now nets.now.table name ≡ false }
 {
-    let _ = ports;
-    let _ = k;
     match rule {
-        NameRule::TwoDrivers => nets.drivers.all.twice.len() == 0,
-        NameRule::Undriven => has_all(&nets.drivers.all.all, &nets.reads),
-        NameRule::ClockUse => false,
+        NameRule::TwoDrivers => false,
+        NameRule::Undriven => false,
+        NameRule::ClockUse => are_clocks_used(ports, k, nets),
     }
 }
 
-/// Whether a set has all names of another.
-fn has_all(set: &NameSet<'_>, names: &NameSet<'_>) -> bool
-    ensures { result ≡ list_all (λ name. is_among name set.now) names.now }
+/// Whether each clock name of a model is used as one.
+fn are_clocks_used(ports: &Ports<'_>, k: u32, nets: &Nets<'_>) -> bool
+    requires reached { IsReached ports.now k }
+    requires nets { AreNets ports.now k nets.now }
+    ensures { result ≡ true → (name : List ℕ) → is_misused ports.now nets.now.table name ≡ false }
+{
+    are_all_used(ports, k, nets, ports.survey().clocks_of(k))
+}
+
+/// Whether each of some names is used as one may use it.
+fn are_all_used(ports: &Ports<'_>, k: u32, nets: &Nets<'_>, names: &NameSet<'_>) -> bool
+    requires reached { IsReached ports.now k }
+    requires nets { AreNets ports.now k nets.now }
+    ensures { result ≡ true → list_all (λ name. not (is_misused ports.now nets.now.table name)) names.now ≡ true }
 {
     for i in 0..names.len() {
-        if !has_at(set, names, i) {
+        if !is_used_at(ports, k, nets, names, i) {
             return false;
         }
     }
     true
 }
 
-/// Whether a set has the name at a place of another.
-fn has_at(set: &NameSet<'_>, names: &NameSet<'_>, place: usize) -> bool
-    requires { place < length names.now }
-    ensures { (name : List ℕ) → slice_get names.now place ≡ Some name → result ≡ is_among name set.now }
+/// Whether the name at a place is used as one may use it.
+fn is_used_at(ports: &Ports<'_>, k: u32, nets: &Nets<'_>, names: &NameSet<'_>, place: usize) -> bool
+    requires reached { IsReached ports.now k }
+    requires nets { AreNets ports.now k nets.now }
+    ensures { result ≡ true → (name : List ℕ) → slice_get names.now place ≡ Some name → is_misused ports.now nets.now.table name ≡ false }
 {
     match names.name_at(place) {
-        Some(name) => set.has(name),
+        Some(name) => is_used(ports, k, nets, name),
         None => false,
+    }
+}
+
+/// Whether a name of a model is no clock name, or is used as one.
+fn is_used(ports: &Ports<'_>, k: u32, nets: &Nets<'_>, name: &[u8]) -> bool
+    requires reached { IsReached ports.now k }
+    requires nets { AreNets ports.now k nets.now }
+    ensures { result ≡ true → is_misused ports.now nets.now.table name.now ≡ false }
+{
+    match nets.table.number_of(name) {
+        Some(number) => !is_misused(ports, k, nets, number, name),
+        None => false,
+    }
+}
+
+/// Tells of the name of a number.
+fn tell_at<'d>(rule: NameRule, nets: &Nets<'d>, number: usize) -> Option<Told<'d>>
+    ensures { (name : List ℕ) → slice_get (names_in nets.now.table) number ≡ Some name → shown_of result ≡ Some (told_name rule nets.now.table.name name) }
+{
+    match nets.table.name_at(number) {
+        Some(name) => Some(tell_name(rule, nets.table.model().name.as_slice(), name)),
+        None => None,
     }
 }
 
@@ -209,19 +235,59 @@ fn tell_name<'d>(rule: NameRule, model: &'d [u8], name: &'d [u8]) -> Told<'d>
     Told::OfName { fault, model, name }
 }
 
-/// Whether a condition is broken at a name of a model.
-fn is_faulty(ports: &Ports<'_>, rule: NameRule, k: u32, nets: &Nets<'_>, name: &[u8]) -> bool
+/// Whether a condition is broken at the name of a number.
+fn is_faulty(ports: &Ports<'_>, rule: NameRule, k: u32, nets: &Nets<'_>, number: usize) -> bool
     requires reached { IsReached ports.now k }
     requires nets { AreNets ports.now k nets.now }
-    ensures { result ≡ is_faulty rule ports.now nets.now.model.now name.now }
+    ensures { (name : List ℕ) → slice_get (names_in nets.now.table) number ≡ Some name → result ≡ is_faulty rule ports.now nets.now.table name }
 {
     match rule {
-        NameRule::TwoDrivers => nets.drivers.all.twice.has(name),
-        NameRule::Undriven => nets.reads.has(name) && !nets.drivers.all.all.has(name),
-        NameRule::ClockUse => {
-            ports.survey().is_clock(k, name)
-                && (!(ports.has(Port::Input, k, name) || ports.has(Port::Clock, k, name))
-                    || (nets.reads.has(name) || nets.drivers.inner.has(name)))
-        }
+        NameRule::TwoDrivers => is_marked(nets.drivers.all.twice.as_slice(), number),
+        NameRule::Undriven => is_undriven(ports, k, nets, number),
+        NameRule::ClockUse => is_misused_at(ports, k, nets, number),
     }
+}
+
+/// Whether the name of a number is read, and not driven.
+fn is_undriven(ports: &Ports<'_>, k: u32, nets: &Nets<'_>, number: usize) -> bool
+    requires { AreNets ports.now k nets.now }
+    ensures { (name : List ℕ) → slice_get (names_in nets.now.table) number ≡ Some name → result ≡ is_undriven ports.now nets.now.table name }
+{
+    let _ = ports;
+    let _ = k;
+    let read = is_marked(nets.reads.as_slice(), number);
+    let driven = is_marked(nets.drivers.all.all.as_slice(), number);
+    read && !driven
+}
+
+/// Whether the name of a number is a clock name that is not used as one.
+fn is_misused_at(ports: &Ports<'_>, k: u32, nets: &Nets<'_>, number: usize) -> bool
+    requires reached { IsReached ports.now k }
+    requires nets { AreNets ports.now k nets.now }
+    ensures { (name : List ℕ) → slice_get (names_in nets.now.table) number ≡ Some name → result ≡ is_misused ports.now nets.now.table name }
+{
+    match nets.table.name_at(number) {
+        Some(name) => is_misused(ports, k, nets, number, name),
+        None => false,
+    }
+}
+
+/// Whether a name of a model, with its number, is a clock name that is not used as one.
+fn is_misused(ports: &Ports<'_>, k: u32, nets: &Nets<'_>, number: usize, name: &[u8]) -> bool
+    requires reached { IsReached ports.now k }
+    requires nets { AreNets ports.now k nets.now }
+    requires name { slice_get (names_in nets.now.table) number ≡ Some name.now }
+    ensures { result ≡ is_misused ports.now nets.now.table name.now }
+{
+    let given = is_given(ports, k, name);
+    let read = is_marked(nets.reads.as_slice(), number);
+    let driven = is_marked(nets.drivers.inner.as_slice(), number);
+    ports.survey().is_clock(k, name) && (!given || (read || driven))
+}
+
+/// Whether a name stands among the inputs or the clocks of a model.
+fn is_given(ports: &Ports<'_>, k: u32, name: &[u8]) -> bool
+    ensures { result ≡ (is_in ports.now Input k name.now || is_in ports.now Clock k name.now) }
+{
+    ports.has(Port::Input, k, name) || ports.has(Port::Clock, k, name)
 }

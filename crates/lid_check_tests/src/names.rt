@@ -1,4 +1,7 @@
+use crate::told::design_of;
 use lid_check_names::{NameSet, find_twice};
+use lid_check_table::Table;
+use lid_design::Design;
 use std::alloc::{AllocError, Global};
 use std::test::Fail;
 
@@ -59,5 +62,39 @@ fn of_many_names_each_is_kept_where_it_first_came(rt: HostRuntime) -> Result<(),
     let names = beginnings(rt.alloc(), text.as_slice())?;
     let set = NameSet::collect(rt.alloc(), names.as_slice())?;
     assert!(rt; has_beginnings(&set, text.as_slice()));
+    Ok(())
+}
+
+/// `a` comes four times, and `n` is read before it is driven.
+const NUMBERED: &str = ".model m\n.inputs a b a\n.outputs y\n.clock c\n.names a n y\n11 1\n\
+.latch b n re c 0\n.subckt s p=n q=a r=z\n.end\n";
+
+/// Whether a table has the names `a`, `b`, `y`, `c`, `n` and `z`, in this order, and their numbers.
+fn is_numbered(table: &Table<'_>) -> bool {
+    table.len() == 6
+        && table.name_at(4) == Some("n".as_bytes())
+        && table.number_of(b"z") == Some(5)
+        && table.number_of(b"p").is_none()
+        && table.inputs() == [0, 1, 0].as_slice()
+        && table.outputs() == [2].as_slice()
+        && table.clocks() == [3].as_slice()
+        && table.reads() == [0, 4, 1].as_slice()
+        && table.outs() == [2, 4].as_slice()
+        && table.actuals() == [4, 0, 5].as_slice()
+}
+
+/// Whether the names of the first model of a design are numbered so.
+fn has_numbers(alloc: Global, design: &Design) -> Result<bool, AllocError> {
+    match design.models.as_slice().first() {
+        Some(model) => Ok(is_numbered(&Table::collect(alloc, model)?)),
+        None => Ok(false),
+    }
+}
+
+#[test]
+fn each_place_has_the_number_of_its_name(rt: HostRuntime) -> Result<(), Fail> {
+    let design = design_of(&rt, rt.alloc(), NUMBERED);
+    let numbered = has_numbers(rt.alloc(), &design)?;
+    assert!(rt; numbered);
     Ok(())
 }

@@ -1,17 +1,27 @@
-use Rattle.std.proofs.Common.{refl, ◌∙◌, ap}
-use Rattle.lid_design.specs.Models.{inner_drivers, read_names}
-use Rattle.lid_check_names.specs.Names.{is_among}
-use Rattle.lid_check_names.proofs.Lists.{is_among_firsts}
+use Rattle.std.proofs.Common.{◌<◌, ◌^◌, Some, length, sym, ap, ◌∙◌, subst}
+use Rattle.lid_design.specs.declared.Model.{Model}
 use Rattle.lid_check_ports.proofs.nets.collect_nets.Goals as goal
+
+pub collect_drivers-requires-clause-model : goal.collect_drivers-requires-clause-model
+collect_drivers-requires-clause-model c = c.requires.model ∙ ap Some (sym c.in_ok-table.ensures)
+
+pub collect_drivers-requires-clause-few : goal.collect_drivers-requires-clause-few
+collect_drivers-requires-clause-few c = subst (λ (m : Model). length m.insts < 2 ^ 32) (sym c.in_ok-table.ensures) c.requires.few
+
+pub collect_reads-requires-clause-model : goal.collect_reads-requires-clause-model
+collect_reads-requires-clause-model c = c.requires.model ∙ ap Some (sym c.in_ok-table.ensures)
+
+pub collect_reads-requires-clause-few : goal.collect_reads-requires-clause-few
+collect_reads-requires-clause-few c = subst (λ (m : Model). length m.insts < 2 ^ 32) (sym c.in_ok-table.ensures) c.requires.few
 
 pub returns : goal.returns
 returns c = (
-  refl,
+  c.in_ok-table.ensures,
   record {
-    here = c.requires.model;
-    driven = c.in_ok-drivers.ensures.all.each;
-    again = c.in_ok-drivers.ensures.all.again;
-    within = λ n. ap (is_among n) c.in_ok-drivers.ensures.inner ∙ is_among_firsts n (inner_drivers c.args.ports.now c.args.model.now);
-    read = λ n. ap (is_among n) c.in_ok-reads.ensures ∙ is_among_firsts n (read_names c.args.ports.now c.args.model.now);
+    here = c.requires.model ∙ ap Some (sym c.in_ok-table.ensures);
+    driven = c.in_ok-drivers.ensures.all;
+    again = c.in_ok-drivers.ensures.twice;
+    within = c.in_ok-drivers.ensures.inner;
+    read = c.in_ok-reads.ensures;
   },
 )

@@ -1,0 +1,4 @@
+pub mod Numbers
+pub mod Growing
+pub mod Marking
+pub mod Appending
