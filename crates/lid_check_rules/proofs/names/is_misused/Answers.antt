@@ -1,4 +1,4 @@
-use Rattle.std.proofs.Common.{◌≡◌, ◌||◌, Bool, true, false, not, refl, sym, ap, ◌∙◌}
+use Rattle.std.proofs.Common.{◌||◌, true, false, not, refl, sym, ap, ◌∙◌}
 use Rattle.lid_design.specs.declared.Design.{Design}
 use Rattle.lid_design.specs.Models.{is_clock_of, read_names, inner_drivers}
 use Rattle.lid_check_names.specs.Names.{is_among}

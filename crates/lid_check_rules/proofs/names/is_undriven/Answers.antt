@@ -1,4 +1,4 @@
-use Rattle.std.proofs.Common.{◌≡◌, ◌&&◌, Bool, not, sym, ap, ◌∙◌}
+use Rattle.std.proofs.Common.{◌&&◌, Bool, not, sym, ap, ◌∙◌}
 use Rattle.lid_design.specs.Models.{read_names, driver_names}
 use Rattle.lid_check_names.specs.Names.{is_among}
 use Rattle.lid_check_table.specs.Tables.{names_in}
