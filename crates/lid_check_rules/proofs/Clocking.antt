@@ -6,6 +6,8 @@ use Rattle.lid_design.specs.declared.Design.{Design}
 use Rattle.lid_design.specs.declared.Model.{Model}
 use Rattle.lid_design.specs.Columns.{is_among, is_clock}
 use Rattle.lid_design.specs.Models.{is_clock_of, read_names, inner_drivers}
+use Rattle.lid_check_ports.specs.declared.ports.Port.TheVariants.{Input, Clock}
+use Rattle.lid_check_ports.specs.Ports.{is_in}
 use Rattle.lid_check_rules.specs.Conditions.{is_misused}
 use Rattle.lid_check_rules.proofs.Sets.{all_among, not_true}
 
@@ -20,3 +22,15 @@ none_misused d k m clocks here are all name = by (is_clock d m name) refl
     by : (b : Bool) → is_clock d m name ≡ b → is_misused d m name ≡ false
     by true e = not_true (is_misused d m name) (all_among (λ n. not (is_misused d m n)) clocks all name (are name ∙ clock_here d k m name here ∙ e))
     by false e = ap (λ (b : Bool). b && (not (is_among name m.inputs || is_among name m.clocks) || (is_among name (read_names d m) || is_among name (inner_drivers d m)))) e
+
+-- whether a name stands among the inputs or the clocks of a model, by the model's number
+pub given_here : (d : Design) (k : ℕ) (m : Model) (name : List ℕ) → slice_get d.models k ≡ Some m → (is_in d Input k name || is_in d Clock k name) ≡ (is_among name m.inputs || is_among name m.clocks)
+given_here d k m name here = ap (λ (o : Option Model). option_map_or (λ m. is_among name m.inputs) o false || option_map_or (λ m. is_among name m.clocks) o false) here
+
+-- whether a name is misused, by what is asked of it
+pub misused_by : (d : Design) (m : Model) (name : List ℕ) (clock given read driven : Bool) → clock ≡ is_clock d m name → given ≡ (is_among name m.inputs || is_among name m.clocks) → read ≡ is_among name (read_names d m) → driven ≡ is_among name (inner_drivers d m) → (clock && (not given || (read || driven))) ≡ is_misused d m name
+misused_by d m name clock given read driven is_clock_name is_given is_read is_driven =
+    ap (λ (b : Bool). b && (not given || (read || driven))) is_clock_name
+    ∙ ap (λ (b : Bool). is_clock d m name && (not b || (read || driven))) is_given
+    ∙ ap (λ (b : Bool). is_clock d m name && (not (is_among name m.inputs || is_among name m.clocks) || (b || driven))) is_read
+    ∙ ap (λ (b : Bool). is_clock d m name && (not (is_among name m.inputs || is_among name m.clocks) || (is_among name (read_names d m) || b))) is_driven

@@ -1,4 +1,4 @@
-use Rattle.std.proofs.Common.{◌≡◌, ℕ, List, ◌<◌, ◌≤◌, true, false, not, length, sym, ap, ◌∙◌, arith}
+use Rattle.std.proofs.Common.{◌≡◌, ℕ, List, ◌<◌, ◌≤◌, true, false, not, length, Some, slice_get, sym, ap, ◌∙◌, arith}
 use Rattle.std.specs.List.{list_all}
 use Rattle.std.proofs.lemmas.List.{drop_all}
 use Rattle.lid_check_rules.specs.Conditions.{is_misused}
@@ -14,7 +14,7 @@ loop-i-preserved c =
     let i = c.loop-i.i in
     let within : i < length names = omega arith in
     let p = λ (name : List ℕ). not (is_misused c.args.ports.now c.args.nets.now.table name) in
-    let used = λ (name : List ℕ) here. sym (ap not (c.is_used_at.ensures c.if-not-is_used_at.false name here)) in
+    let used = λ (name : List ℕ) (here : slice_get names i ≡ Some name). sym (ap not (c.is_used_at.ensures c.if-not-is_used_at.false name here)) in
     sym (all_from p names i true within used) ∙ c.loop-i.invariant
 
 pub returns : goal.returns

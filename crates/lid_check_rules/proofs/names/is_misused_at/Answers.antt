@@ -1,5 +1,5 @@
 use denote.Ref.{Bor}
-use Rattle.std.proofs.Common.{◌≡◌, ℕ, List, Option, Some, None, option_map, sym, ap, ◌∙◌}
+use Rattle.std.proofs.Common.{◌≡◌, ℕ, List, Some, None, option_map, sym, ap, ◌∙◌}
 use Rattle.std.proofs.lemmas.Option.{same_Some}
 use Rattle.lid_check_rules.specs.Conditions.{is_misused}
 use Rattle.lid_check_rules.proofs.names.is_misused_at.Goals as goal

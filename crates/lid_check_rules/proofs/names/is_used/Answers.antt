@@ -1,5 +1,4 @@
-use Rattle.std.proofs.Common.{◌≡◌, true, false, not, sym, ◌∙◌}
-use Rattle.std.specs.Str.{bytes_eq}
+use Rattle.std.proofs.Common.{◌≡◌, true, false, sym, ◌∙◌}
 use Rattle.lid_check_table.specs.Tables.{names_in}
 use Rattle.lid_check_rules.proofs.Sets.{not_true, found_there}
 use Rattle.lid_check_rules.proofs.names.is_used.Goals as goal

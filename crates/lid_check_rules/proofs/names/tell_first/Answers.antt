@@ -1,4 +1,4 @@
-use Rattle.std.proofs.Common.{◌≡◌, ℕ, ◌+◌, ◌<◌, ◌≤◌, Bool, cond, List, length, find, drop, option_map, Option, Some, sym, ap, ◌∙◌, arith}
+use Rattle.std.proofs.Common.{◌≡◌, ◌+◌, ◌<◌, ◌≤◌, Bool, cond, length, find, drop, option_map, Some, sym, ap, ◌∙◌, arith}
 use Rattle.std.proofs.lemmas.List.{drop_all}
 use Rattle.lid_base.proofs.Places.{item_at}
 use Rattle.lid_check_table.specs.Tables.{names_in}
@@ -17,7 +17,7 @@ returns-then-is_faulty c =
     let names = names_in m in
     let p = is_faulty c.args.rule c.args.ports.now m in
     let i = c.loop-number.number in
-    let below : i < length names = omega (arith, c.len.ensures) in
+    let below : i < length names = omega (arith, c.len-number-end.ensures) in
     let name = item_at names i below in
     let holds = sym (c.is_faulty.ensures name.0 name.1) ∙ c.if-is_faulty.true in
     let found : find p names ≡ Some name.0 =
@@ -30,7 +30,7 @@ loop-number-preserved c =
     let names = names_in m in
     let p = is_faulty c.args.rule c.args.ports.now m in
     let i = c.loop-number.number in
-    let below : i < length names = omega (arith, c.len.ensures) in
+    let below : i < length names = omega (arith, c.len-number-end.ensures) in
     let name = item_at names i below in
     let fails = sym (c.is_faulty.ensures name.0 name.1) ∙ c.if-is_faulty.false in
     sym (find_from p names i name.0 below name.1 ∙ ap (λ (b : Bool). cond b (Some name.0) (find p (drop (i + 1) names))) fails) ∙ c.loop-number.invariant
@@ -41,6 +41,6 @@ returns c =
     let names = names_in m in
     let p = is_faulty c.args.rule c.args.ports.now m in
     let i = c.loop-number.number in
-    let past : length names ≤ i = omega (arith, c.len.ensures) in
+    let past : length names ≤ i = omega (arith, c.len-number-end.ensures) in
     let none = sym c.loop-number.invariant ∙ ap (find p) (drop_all i names past) in
     sym (rule_by_first c.args.rule c.args.ports.now m ∙ ap (option_map (told_name c.args.rule m.name)) none)
