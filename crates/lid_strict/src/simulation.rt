@@ -13,8 +13,8 @@ ghost use Rattle.lid_strict.specs.Layouts.{IsRunnable, IsSettled, IsEngineOf, Fi
 
 use crate::layout::{Layout, lay_out};
 use crate::source::RowSource;
-use crate::store::RowStore;
 use crate::stems::{stems_of, write_stems};
+use crate::store::RowStore;
 use lid_check_elab::ColumnDriver;
 use lid_design::Design;
 use lid_strict_engine::{copy_of, put_bits, take_bits};

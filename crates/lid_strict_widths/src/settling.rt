@@ -67,10 +67,7 @@ fn value_by_words<P: Packing>(words: &[u64], first: u64, nets: &[u32], bits: &[b
     ensures { (cover : Cover) → IsWideTable words.now first cover → cover.inputs ≡ length nets.now → result ≡ cover_value cover (map (bit_at bits.now) nets.now) }
 {
     let high = P::pack(bits, &nets[6..]);
-    bit_of(
-        words[(first + high) as usize],
-        Six::pack(bits, &nets[..6]),
-    )
+    bit_of(words[(first + high) as usize], Six::pack(bits, &nets[..6]))
 }
 
 /// Runs the steps of a group that read six nets more than this by their tables of words, and answers where the reads after

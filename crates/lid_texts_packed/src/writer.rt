@@ -83,12 +83,7 @@ impl<'c> RowsPrinter<'c> {
         ensures width { length self.new.chars.items ≡ length self.old.chars.items }
         ensures printed { OnOk result ((rows : List (List Bool)) → HasPrinted self.old rows → HasPrinted self.new (rows ++ row.now ∷ [])) }
     {
-        append_line(
-            self.columns,
-            row,
-            self.chars.as_mut_slice(),
-            &mut self.text,
-        )
+        append_line(self.columns, row, self.chars.as_mut_slice(), &mut self.text)
     }
 
     /// Hands out the text.

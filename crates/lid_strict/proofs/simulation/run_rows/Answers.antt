@@ -12,7 +12,7 @@ loop-t-init g c = (
   c.requires.bits,
   c.requires.out,
   c.requires.width,
-  record { given = []; run = λ b fits. (c.requires.state, refl); held = c.requires.none; },
+  record { given = []; run = λ b fits. (c.requires.state, refl); held = c.requires.none },
 )
 
 pub loop-t-preserved : goal.loop-t-preserved

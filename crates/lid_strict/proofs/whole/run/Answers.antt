@@ -44,10 +44,12 @@ returns g c =
     let n = c.args.network.now in
     let rows = g.R.RowSource.rows c.args.rows.now in
     on_ok c.run_ready.result
-    (λ has. (has.given,
-    strict_output d n.columns.drivers n.columns.starts c.requires.network.elaborated n.order n.outputs c.requires.network.ordered c.requires.network.outputs rows has.given
-    (subst (λ (outs : List ℕ). (b : Table ℕ) → IsStrict (driver_list (map (shown_driver d) n.columns.drivers)) rows b → has.given ≡ rows_at outs b (length rows)) c.as_slice-outs.ensures
-    (subst (λ (ds : List ColumnDriver). (b : Table ℕ) → IsStrict (driver_list (map (shown_driver d) ds)) rows b → has.given ≡ rows_at c.as_slice-outs.result.now b (length rows)) c.as_slice-drivers.ensures
-    (λ b strict. has.each b (c.in_ok-ready.ensures.runs rows b strict).fits ∙ (c.in_ok-ready.ensures.runs rows b strict).same))),
-    has.held))
+    (λ has. (
+      has.given,
+      strict_output d n.columns.drivers n.columns.starts c.requires.network.elaborated n.order n.outputs c.requires.network.ordered c.requires.network.outputs rows has.given
+          (subst (λ (outs : List ℕ). (b : Table ℕ) → IsStrict (driver_list (map (shown_driver d) n.columns.drivers)) rows b → has.given ≡ rows_at outs b (length rows)) c.as_slice-outs.ensures
+          (subst (λ (ds : List ColumnDriver). (b : Table ℕ) → IsStrict (driver_list (map (shown_driver d) ds)) rows b → has.given ≡ rows_at c.as_slice-outs.result.now b (length rows)) c.as_slice-drivers.ensures
+          (λ b strict. has.each b (c.in_ok-ready.ensures.runs rows b strict).fits ∙ (c.in_ok-ready.ensures.runs rows b strict).same))),
+      has.held,
+    ))
     c.run_ready.ensures
