@@ -123,6 +123,7 @@ pub(crate) fn make_ready(
 }
 
 /// What a run goes by.
+#[derive(Drop)]
 struct Simulation<'r, R> {
     layout: &'r Layout,
     engine: &'r ByWidth,
@@ -139,9 +140,10 @@ pub(crate) fn run_ready<R: RowSource, W: RowStore>(
 ) -> Result<(), AllocError>
     requires runnable { IsRunnable ready.now.layout }
     requires outs { AllByRecursion (IsSettled ready.now.layout) ready.now.outs.items }
-    requires width { W.width into.old ≡ length ready.now.outs.items }
+    requires width { W.width (W.form into.old) ≡ length ready.now.outs.items }
     requires none { W.has into.old [] }
-    ensures { OnOk result (HasRows ready.now.layout ready.now.outs.items (R.rows rows.now) (W.has into.new)) }
+    ensures form { OnOk result (W.form into.new ≡ W.form into.old) }
+    ensures rows { OnOk result (HasRows ready.now.layout ready.now.outs.items (R.rows rows.now) (W.has into.new)) }
 {
     let engine = engine_of(&ready.layout)?;
     let run = Simulation {
@@ -163,9 +165,10 @@ fn run_layout<R: RowSource, W: RowStore>(
     requires runnable { IsRunnable run.now.layout.now }
     requires engine { IsEngineOf run.now.layout.now run.now.engine.now }
     requires outs { AllByRecursion (IsSettled run.now.layout.now) run.now.outs.now }
-    requires width { W.width into.old ≡ length run.now.outs.now }
+    requires width { W.width (W.form into.old) ≡ length run.now.outs.now }
     requires none { W.has into.old [] }
-    ensures { OnOk result (HasRows run.now.layout.now run.now.outs.now (R.rows run.now.rows.now) (W.has into.new)) }
+    ensures form { OnOk result (W.form into.new ≡ W.form into.old) }
+    ensures rows { OnOk result (HasRows run.now.layout.now run.now.outs.now (R.rows run.now.rows.now) (W.has into.new)) }
 {
     let mut state = copy_of(alloc, run.layout.first.as_slice())?;
     let mut inputs = Vec::from_elem(alloc, false, run.layout.places.len())?;
@@ -197,9 +200,10 @@ fn run_rows<R: RowSource, W: RowStore>(
     requires inputs { length inputs.old ≡ length run.now.layout.now.places.items }
     requires bits { length bits.old ≡ run.now.layout.now.program.nets }
     requires out { length out.old ≡ length run.now.outs.now }
-    requires width { W.width into.old ≡ length run.now.outs.now }
+    requires width { W.width (W.form into.old) ≡ length run.now.outs.now }
     requires none { W.has into.old [] }
-    ensures { OnOk result (HasRows run.now.layout.now run.now.outs.now (R.rows run.now.rows.now) (W.has into.new)) }
+    ensures form { OnOk result (W.form into.new ≡ W.form into.old) }
+    ensures rows { OnOk result (HasRows run.now.layout.now run.now.outs.now (R.rows run.now.rows.now) (W.has into.new)) }
 {
     for t in 0..run.rows.count() {
         read_row(run.rows, t, run.layout.places.as_slice(), inputs);

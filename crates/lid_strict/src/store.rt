@@ -1,6 +1,6 @@
 //! Where the rows of a simulation go.
 
-ghost use Rattle.std.specs.Prelude.{◌≡◌, ◌++◌, ◌∷◌, Bool, List, length, OnOk};
+ghost use Rattle.std.specs.Prelude.{◌≡◌, ◌++◌, ◌∷◌, [], ℕ, Bool, List, length, OnOk};
 ghost use Rattle.lid_texts_packed.specs.Writing.{HasPrinted};
 
 use lid_texts_packed::{PackedRows, RowsPrinter};
@@ -10,7 +10,11 @@ use std::alloc::AllocError;
 pub trait RowStore {
     ghost use Rattle.std.specs.Prelude.{ℕ, Bool, List};
 
-    ghost width: { Self → ℕ };
+    ghost Form: { Type 0 };
+
+    ghost form: { Self → Form };
+
+    ghost width: { Form → ℕ };
 
     ghost has: { Self → List (List Bool) → Type 0 };
 
@@ -19,13 +23,17 @@ pub trait RowStore {
     /// # Errors
     /// Want of memory.
     fn push(&mut self, row: &[bool]) -> Result<(), AllocError>
-        requires { length row.now ≡ width self.old }
-        ensures width { width self.new ≡ width self.old }
+        requires { length row.now ≡ width (form self.old) }
+        ensures form { form self.new ≡ form self.old }
         ensures has { OnOk result ((rows : List (List Bool)) → has self.old rows → has self.new (rows ++ row.now ∷ [])) };
 }
 
 impl RowStore for PackedRows {
-    ghost width = { λ packed. packed.width };
+    ghost Form = { ℕ };
+
+    ghost form = { λ packed. packed.width };
+
+    ghost width = { λ width. width };
 
     ghost has = { λ packed rows. packed.rows ≡ rows };
 
@@ -35,7 +43,11 @@ impl RowStore for PackedRows {
 }
 
 impl RowStore for RowsPrinter<'_> {
-    ghost width = { λ printer. length printer.chars.items };
+    ghost Form = { List (List ℕ) × ℕ };
+
+    ghost form = { λ printer. (printer.columns.now, length printer.chars.items) };
+
+    ghost width = { λ form. form.1 };
 
     ghost has = { HasPrinted };
 

@@ -65,9 +65,10 @@ fn run<R: RowSource, W: RowStore>(
 ) -> Result<(), AllocError>
     requires formed { IsWellFormed design.now }
     requires network { IsNetwork design.now network.now }
-    requires width { W.width into.old ≡ length network.now.outputs }
+    requires width { W.width (W.form into.old) ≡ length network.now.outputs }
     requires none { W.has into.old [] }
-    ensures { OnOk result ((outs : List (List Bool)) × IsStrictOutput design.now (R.rows rows.now) outs × W.has into.new outs) }
+    ensures form { OnOk result (W.form into.new ≡ W.form into.old) }
+    ensures rows { OnOk result ((outs : List (List Bool)) × IsStrictOutput design.now (R.rows rows.now) outs × W.has into.new outs) }
 {
     let drivers = network.columns.drivers.as_slice();
     let order = network.order.as_slice();

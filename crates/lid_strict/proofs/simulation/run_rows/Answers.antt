@@ -1,4 +1,4 @@
-use Rattle.std.proofs.Common.{◌≡◌, [], ◌+◌, ◌<◌, ◌++◌, ◌∷◌, Bool, List, length, map, get_or, refl, sym, ◌∙◌, ap, arith}
+use Rattle.std.proofs.Common.{◌≡◌, [], ◌<◌, ◌++◌, ◌∷◌, Bool, List, length, map, get_or, refl, sym, ◌∙◌, ap, arith}
 use Rattle.std.proofs.lemmas.List.{length-map}
 use Rattle.lid_strict_engine.specs.Rows.{bit_at}
 use Rattle.lid_strict.specs.Networks.{rows_at}
@@ -11,7 +11,7 @@ loop-t-init g c = (
   c.requires.inputs,
   c.requires.bits,
   c.requires.out,
-  c.requires.width,
+  refl,
   record { given = []; run = λ b fits. (c.requires.state, refl); held = c.requires.none },
 )
 
@@ -31,7 +31,7 @@ loop-t-preserved g c =
       ap (λ (bs : List Bool). length bs) read ∙ length-map p.places.items (bit_at row),
       is.bits_size,
       ap (λ (bs : List Bool). length bs) c.pick.ensures ∙ length-map outs (bit_at new.bits),
-      c.in_ok-push.ensures.width ∙ c.loop-t.invariant.4,
+      c.in_ok-push.ensures.form ∙ c.loop-t.invariant.4,
       record {
         given = before.given ++ c.pick.new.into ∷ [];
         run = runs_next p outs rows t c.loop-t.state new.state new.bits row c.pick.new.into before.given c.requires.runnable.settled c.requires.outs h refl before.run is.state (λ f fits. is.bits row f read fits) c.pick.ensures;
@@ -41,10 +41,13 @@ loop-t-preserved g c =
 
 pub push-requires : goal.push-requires
 push-requires g c =
-    ap (λ (bs : List Bool). length bs) c.pick.ensures ∙ length-map c.args.run.now.outs.now (bit_at c.run_row.new.bits) ∙ sym c.loop-t.invariant.4
+    ap (λ (bs : List Bool). length bs) c.pick.ensures ∙ length-map c.args.run.now.outs.now (bit_at c.run_row.new.bits) ∙ sym (ap g.W.RowStore.width c.loop-t.invariant.4 ∙ c.requires.width)
 
-pub returns : goal.returns
-returns g c =
+pub returns-clause-form : goal.returns-clause-form
+returns-clause-form g c = c.loop-t.invariant.4
+
+pub returns-clause-rows : goal.returns-clause-rows
+returns-clause-rows g c =
     let rows = g.R.RowSource.rows c.args.run.now.rows.now in
     let all : c.loop-t.t ≡ length rows = omega (arith, c.loop-t-test.false, c.loop-t.auto.t-end, c.count-t-end.ensures) in
     let done = c.loop-t.invariant.5 in

@@ -8,5 +8,5 @@ invariant-loop-t g l =
     × (length l.inputs ≡ length l.run.layout.now.places.items)
     × (length l.bits ≡ l.run.layout.now.program.nets)
     × (length l.out ≡ length l.run.outs.now)
-    × (g.W.RowStore.width l.into ≡ length l.run.outs.now)
+    × (g.W.RowStore.form l.into ≡ g.W.RowStore.form l.fn.into)
     × HasRun l.run.layout.now l.run.outs.now (g.R.RowSource.rows l.run.rows.now) l.t l.state (g.W.RowStore.has l.into)

@@ -38,8 +38,8 @@ pub run_ready-requires-clause-width : goal.run_ready-requires-clause-width
 run_ready-requires-clause-width g c =
     c.requires.width ∙ sym (c.in_ok-ready.ensures.many ∙ ap (λ (ks : List ℕ). length ks) c.as_slice-outs.ensures)
 
-pub returns : goal.returns
-returns g c =
+pub returns-clause-rows : goal.returns-clause-rows
+returns-clause-rows g c =
     let d = c.args.design.now in
     let n = c.args.network.now in
     let rows = g.R.RowSource.rows c.args.rows.now in
@@ -52,4 +52,4 @@ returns g c =
           (λ b strict. has.each b (c.in_ok-ready.ensures.runs rows b strict).fits ∙ (c.in_ok-ready.ensures.runs rows b strict).same))),
       has.held,
     ))
-    c.run_ready.ensures
+    c.run_ready.ensures.rows
