@@ -31,13 +31,7 @@ fn cube_of(inputs: u32, seed: u64) -> Cube
 }
 
 /// A cover of so many rows.
-fn cover_of(
-    alloc: Global,
-    inputs: u32,
-    on: bool,
-    rows: u64,
-    seed: u64,
-) -> Result<Cover, AllocError>
+fn cover_of(alloc: Global, inputs: u32, on: bool, rows: u64, seed: u64) -> Result<Cover, AllocError>
     requires { inputs ≤ 13 }
     ensures { IfOk result (λ c. IsCover c × (c.inputs ≡ inputs)) }
 {
@@ -140,7 +134,10 @@ fn wide_covers_have_their_values(rt: HostRuntime) -> Result<(), AllocError> {
         (12, 32),
         (13, 70),
     ] {
-        assert!(rt; covers_are_run(rt.alloc(), inputs, rows)?, "{inputs} inputs, {rows} rows");
+        assert!(rt;
+            covers_are_run(rt.alloc(), inputs, rows)?,
+            "{inputs} inputs, {rows} rows"
+        );
     }
     Ok(())
 }
