@@ -2,6 +2,4 @@
 #![tactic(auto)]
 
 #[cfg(test)]
-mod tables;
-#[cfg(test)]
 mod widths;

@@ -59,6 +59,20 @@ wide_exact words first cover bits is long many =
     ∙ is.bits (packed bits) below
     ∙ ap (cover_value cover) (unpacked_packed cover.inputs bits (omega arith) ∙ take_all cover.inputs bits (omega arith))
 
+pub after_six : (nets : List ℕ) → take (length nets - 6) (drop 6 nets) ≡ drop 6 nets
+after_six nets = (let long = length-drop 6 nets in take_all (length nets - 6) (drop 6 nets) (omega arith))
+
+-- the word that the nets after the sixth tell is one of the table
+pub word_within : (words : List ℕ) (first high w : ℕ) (bits : List Bool) (nets : List ℕ) → length nets ≡ 6 + w → first + 2 ^ w ≤ length words → high ≡ packed (map (bit_at bits) (drop 6 nets))
+    → first + high < length words
+word_within words first high w bits nets long room is =
+    let count = length-map (drop 6 nets) (bit_at bits) ∙ length-drop 6 nets in
+    let small = packed_below (map (bit_at bits) (drop 6 nets)) w (omega arith) in
+    omega arith
+
+pub words_of_width : (n w : ℕ) → n ≡ 6 + w → 2 ^ (n - 6) ≡ 2 ^ w
+words_of_width n w is = (let e : n - 6 ≡ w = omega arith in ap (λ (m : ℕ). 2 ^ m) e)
+
 -- the bits of as many nets as a small cover has inputs
 pub small_bits : (bits : List Bool) (nets : List ℕ) → length nets ≤ 6 → packed (map (bit_at bits) nets) < 64
 small_bits bits nets few = (let long = length-map nets (bit_at bits) in packed_below (map (bit_at bits) nets) 6 (omega arith))

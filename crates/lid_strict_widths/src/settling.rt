@@ -90,14 +90,14 @@ fn settle_by_words<P: Packing>(
     ensures bits { RightUpTo (run_covers x.now) group.start bits.old group.end bits.new }
 {
     let width = group.width as usize;
-    let mut at = reads_at;
+    let mut place = reads_at;
     for i in group.start..group.end {
-        let nets = &x.reads.as_slice()[at..at + width];
+        let nets = &x.reads.as_slice()[place..place + width];
         let value = value_by_words::<P>(x.words.as_slice(), x.tables[i], nets, bits);
         bits[x.outs[i] as usize] = value;
-        at += width;
+        place += width;
     }
-    at
+    place
 }
 
 /// The step that is run after so many others.
