@@ -34,6 +34,13 @@ class Maker:
         rows = ["".join(self.dice.choice("01-") for _ in inputs) for _ in range(self.dice.randint(0, 3))]
         return Cover(inputs, out, [(row, on) for row in rows])
 
+    def wide_cover(self, nets: list[str], out: str) -> Cover:
+        """A cover of seven to thirteen inputs: of these, those with many rows are run by tables of words."""
+        on = self.dice.choice("10")
+        inputs = [self.dice.choice(nets) for _ in range(self.dice.randint(7, 13))]
+        rows = ["".join(self.dice.choice("01----") for _ in inputs) for _ in range(self.dice.randint(1, 70))]
+        return Cover(inputs, out, [(row, on) for row in rows])
+
     def add_clock(self, m: Model):
         where = self.dice.randint(0, 2)
         if where < 2:
@@ -46,7 +53,8 @@ class Maker:
         latches = [f"q{j}" for j in range(self.dice.randint(0, 3))]
         nets = m.inputs + latches
         for j in range(self.dice.randint(0, 4)):
-            m.cells.append(self.cover(self.some(nets, 3), f"n{j}"))
+            is_wide = nets and self.dice.random() < 0.1
+            m.cells.append(self.wide_cover(nets, f"n{j}") if is_wide else self.cover(self.some(nets, 3), f"n{j}"))
             nets.append(f"n{j}")
         for out in latches:
             kind = self.dice.choice([edge, edge, None])
