@@ -3,7 +3,8 @@
 ghost use Rattle.std.specs.Prelude.{None, false};
 
 use lid_base::{
-    File, Gate, Items, MeetGate, MemShelf, MemSink, OpenGate, Shelf, ShelfFailed, Text,
+    Bytes, File, Gate, Items, MeetGate, MemShelf, MemSink, OpenGate, Shelf, ShelfFailed, Text,
+    copy_name,
 };
 use lid_top::lid_run;
 use std::alloc::{AllocError, Global};
@@ -79,13 +80,13 @@ fn words_of(alloc: Global, words: &[&str]) -> Result<Vec<Text>, AllocError> {
     Ok(texts)
 }
 
-fn bytes_of(alloc: Global, text: &str) -> Result<Items<u8>, AllocError> {
+fn bytes_of(alloc: Global, text: &str) -> Result<Bytes, AllocError> {
     Ok(Items::from_vec(Vec::from_slice(alloc, text.as_bytes())?))
 }
 
 fn file_of(alloc: Global, name: &str, text: &str) -> Result<File, AllocError> {
     Ok(File {
-        name: bytes_of(alloc, name)?,
+        name: copy_name(alloc, name.as_bytes())?,
         bytes: bytes_of(alloc, text)?,
     })
 }

@@ -21,7 +21,7 @@ ghost use Rattle.lid_base.specs.Lines.{
 ghost use Rattle.lid_base.specs.Cuts.{lines_left};
 ghost use Rattle.lid_base.specs.Lists.{ExtendsByPart};
 
-use crate::items::Name;
+use crate::names::{Name, copy_name};
 use std::alloc::{AllocError, Global};
 
 /// Where the first newline stands.
@@ -84,11 +84,11 @@ fn is_separator(b: u8) -> bool
 fn is_allowed(b: u8) -> bool
     ensures { result ≡ is_allowed b }
 {
-    is_separator(b) || 32 <= b && b <= 126
+    32 <= b && b <= 126 || b == b'\t' || b == b'\r'
 }
 
 /// Whether the last byte is a `\`.
-fn ends_in_mark(bytes: &[u8]) -> bool
+pub fn ends_in_mark(bytes: &[u8]) -> bool
     ensures { result ≡ ends_in_mark bytes.now }
 {
     match bytes {
@@ -98,7 +98,7 @@ fn ends_in_mark(bytes: &[u8]) -> bool
 }
 
 /// The bytes without the separators at the end.
-fn trimmed(bytes: &[u8]) -> &[u8]
+pub fn trimmed(bytes: &[u8]) -> &[u8]
     ensures { result.now ≡ trimmed bytes.now }
 {
     let mut end = bytes.len();
@@ -128,7 +128,7 @@ pub fn goes_on(line: &[u8]) -> bool
 
 /// The part of a physical line that has its words: without the comment, and without a `\` that
 /// ends the line. `next_word` cuts them off one by one.
-pub fn words_part(line: &[u8]) -> &[u8]
+fn words_part(line: &[u8]) -> &[u8]
     ensures { words_in result.now ≡ words_of line.now }
 {
     without_mark(trimmed(content_of(line)))
@@ -151,11 +151,16 @@ pub fn next_word(bytes: &[u8]) -> Option<(&[u8], &[u8])>
     }
 }
 
-/// Whether a byte is not allowed outside comments.
-fn has_stray_byte(bytes: &[u8]) -> bool
+/// Whether a byte is not allowed outside comments. The loop has no early exit, so that many bytes
+/// are compared at once.
+pub fn has_stray_byte(bytes: &[u8]) -> bool
     ensures { result ≡ list_any (λ b. not (is_allowed b)) bytes.now }
 {
-    bytes.iter().any(|b| !is_allowed(*b))
+    let mut has_stray = false;
+    for b in bytes {
+        has_stray |= !is_allowed(*b);
+    }
+    has_stray
 }
 
 /// Whether a word ends in a `\`.
@@ -211,7 +216,7 @@ pub fn push_words(alloc: Global, line: &[u8], words: &mut Vec<Name>) -> Result<(
 {
     let mut rest = words_part(line);
     while let Some((word, after)) = next_word(rest) {
-        words.push(Name::from_vec(Vec::from_slice(alloc, word)?))?;
+        words.push(copy_name(alloc, word)?)?;
         rest = after;
     }
     Ok(())

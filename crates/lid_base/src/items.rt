@@ -21,9 +21,6 @@ impl<T> Model for Items<T> {
     ghost view = { λ s. s.items.items };
 }
 
-/// A name: the bytes of one word.
-pub type Name = Items<u8>;
-
 /// The bytes of a file.
 pub type Bytes = Items<u8>;
 

@@ -18,13 +18,14 @@ mod which;
 mod words;
 
 pub use cut::{
-    content_of, cut_line, goes_on, has_bad_byte, has_long_word, next_word, push_words, words_part,
+    content_of, cut_line, ends_in_mark, has_bad_byte, has_stray_byte, next_word, push_words,
+    trimmed,
 };
-pub use items::{Bytes, Items, Name};
+pub use items::{Bytes, Items};
 pub use line::{Line, TextFault, lines};
 pub use meet::MeetGate;
 pub use memory::{File, MemShelf, MemSink};
-pub use names::{copy_name, copy_names, push_copies};
+pub use names::{Name, copy_name, copy_names, push_copies};
 pub use noting::Noting;
 pub use numerals::{append_number, is_below, number, number_below, value_below};
 pub use outside::{Fetch, Gate, OpenGate, Shelf, ShelfFailed, Sink, SinkFailed};

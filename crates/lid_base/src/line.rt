@@ -5,7 +5,8 @@ ghost use Rattle.lid_base.specs.Lines.{logical_lines, line_fault, text_fault};
 ghost use Rattle.lid_base.specs.Joins.{closed_lines, open_lines, all_lines};
 
 use crate::cut::{cut_line, goes_on, has_bad_byte, has_long_word, push_words};
-use crate::items::{Items, Name};
+use crate::items::Items;
+use crate::names::Name;
 use std::alloc::{AllocError, Global};
 use std::mem;
 use thiserror::Error;

@@ -5,7 +5,8 @@ ghost use Rattle.std.specs.Option.{option_copied};
 ghost use Rattle.lid_base.specs.Memory.{bytes_held};
 ghost use Rattle.lid_base.specs.Outside.{Rose, FetchedFrom, Appended, AppendedPrefix, IsFetchedFrom};
 
-use crate::items::{Bytes, Name};
+use crate::items::Bytes;
+use crate::names::Name;
 use crate::outside::{Shelf, ShelfFailed, Sink, SinkFailed};
 use std::alloc::{AllocError, Global};
 use std::marker::Model;

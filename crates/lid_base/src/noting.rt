@@ -43,6 +43,13 @@ fn fetch_of(alloc: Global, name: &str, at: u64, room: usize) -> Result<Fetch, Al
     Ok(Fetch { name, at, room })
 }
 
+/// A piece that is written.
+fn copy_piece(alloc: Global, piece: &[u8]) -> Result<Bytes, AllocError>
+    ensures { IfOk result (λ call. call ≡ piece.now) }
+{
+    Ok(Items::from_vec(Vec::from_slice(alloc, piece)?))
+}
+
 impl<S: Drop, C: Drop> Noting<S, C> {
     /// Round this shelf or sink, with no call noted so far.
     pub fn new(alloc: Global, inside: S) -> Noting<S, C>
@@ -98,7 +105,7 @@ impl<S: Sink + Drop> Sink for Noting<S, Bytes> {
     ghost pieces = { λ s. option_map (λ v. v.items) s.calls };
 
     fn write(&mut self, piece: &[u8]) -> Result<(), SinkFailed> {
-        let call = copy_name(self.alloc, piece);
+        let call = copy_piece(self.alloc, piece);
         self.calls = note(self.calls.take(), call);
         self.inside.write(piece)
     }

@@ -4,7 +4,7 @@
 ghost use Rattle.std.specs.Prelude.{◌≡◌, ℕ, ◌≤◌, ◌<◌, Bool, List, [], ◌∷◌, Option, length, IfOk, OnOk, OnErr};
 ghost use Rattle.lid_base.specs.Outside.{Rose, FetchedFrom, Appended, AppendedPrefix, Came, one_fetch};
 
-use crate::items::Name;
+use crate::names::Name;
 
 /// A fetch failed.
 #[derive(Clone, Copy, Debug, PartialEq, Eq)]

@@ -3,7 +3,7 @@
 ghost use Rattle.std.specs.Prelude.{◌≡◌, bytes_eq, drop};
 ghost use Rattle.lid_base.specs.Words.{word_at, begins_with};
 
-use crate::items::Name;
+use crate::names::Name;
 
 /// The word at a place, or no bytes past the end.
 pub fn word_at(words: &[Name], at: usize) -> &[u8]

@@ -1,15 +1,11 @@
 -- The words of a text while it is cut into lines.
-use Rattle.std.specs.Prelude.{◌≡◌, ℕ, ◌+◌, ◌≤◌, nat_lt, Bool, not, List, [], ◌∷◌, ◌++◌, length, take, drop}
+use Rattle.std.specs.Prelude.{◌≡◌, ℕ, ◌+◌, ◌≤◌, nat_lt, Bool, List, [], ◌∷◌, ◌++◌, length, take, drop}
 use Rattle.std.specs.List.{list_any}
-use Rattle.lid_base.specs.Lines.{is_allowed, ends_in_mark}
+use Rattle.lid_base.specs.Lines.{ends_in_mark}
 use Rattle.lid_base.specs.declared.line.Line.{Line}
 use Rattle.lid_base.specs.Joins.{open_lines}
 use Rattle.lid_blif.specs.declared.cutting.Span.{Span}
 use Rattle.lid_blif.specs.declared.cutting.Joined.{Joined}
-
--- a byte that is not allowed outside comments
-abbrev pub has_stray_byte : List ℕ → Bool
-has_stray_byte bytes = list_any (λ b. not (is_allowed b)) bytes
 
 -- a word that ends in a backslash
 abbrev pub has_marked_word : List (List ℕ) → Bool

@@ -1,71 +1,12 @@
 //! A physical line, gone over once: its words, and what is at fault in it.
 
-ghost use Rattle.std.specs.Prelude.{◌≡◌, ◌⊎◌, ◌++◌, Bool, not, ◌||◌, length, take, IfOk, OnOk, IfErr, Some, None};
-ghost use Rattle.std.specs.List.{list_any};
-ghost use Rattle.lid_base.specs.Lines.{
-  is_separator,
-  is_allowed,
-  ends_in_mark,
-  content_of,
-  trimmed,
-  without_mark,
-  goes_on,
-  words_in,
-  words_of,
-  line_fault,
-};
-ghost use Rattle.lid_blif.specs.Joins.{has_stray_byte, has_marked_word, has_longer_word};
+ghost use Rattle.std.specs.Prelude.{◌≡◌, ◌⊎◌, ◌++◌, IfOk, OnOk, IfErr, Some, None};
+ghost use Rattle.lid_base.specs.Lines.{content_of, goes_on, words_in, words_of, line_fault};
+ghost use Rattle.lid_blif.specs.Joins.{has_marked_word, has_longer_word};
 
 use crate::line::Word;
-use lid_base::{TextFault, content_of, next_word};
+use lid_base::{TextFault, content_of, ends_in_mark, has_stray_byte, next_word, trimmed};
 use std::alloc::AllocError;
-
-/// Whether a byte separates words: a blank, a tab or a carriage return.
-fn is_separator(b: u8) -> bool
-    ensures { result ≡ is_separator b }
-{
-    b == b' ' || b == b'\t' || b == b'\r'
-}
-
-/// Whether a byte may stand outside comments, within a line.
-fn is_allowed(b: u8) -> bool
-    ensures { result ≡ is_allowed b }
-{
-    32 <= b && b <= 126 || b == b'\t' || b == b'\r'
-}
-
-/// Whether a byte is not allowed outside comments. The loop has no early exit, so that many bytes
-/// are compared at once.
-fn has_stray_byte(bytes: &[u8]) -> bool
-    ensures { result ≡ has_stray_byte bytes.now }
-{
-    let mut has_stray = false;
-    for b in bytes {
-        has_stray |= !is_allowed(*b);
-    }
-    has_stray
-}
-
-/// Whether the last byte is a `\`.
-fn ends_in_mark(bytes: &[u8]) -> bool
-    ensures { result ≡ ends_in_mark bytes.now }
-{
-    match bytes {
-        [.., last] => *last == b'\\',
-        [] => false,
-    }
-}
-
-/// The bytes without the separators at the end.
-fn trimmed(bytes: &[u8]) -> &[u8]
-    ensures { result.now ≡ trimmed bytes.now }
-{
-    let mut end = bytes.len();
-    while end > 0 && is_separator(bytes[end - 1]) {
-        end -= 1;
-    }
-    &bytes[..end]
-}
 
 /// The parts of a physical line.
 #[derive(Clone, Copy)]

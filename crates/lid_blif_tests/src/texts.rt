@@ -4,7 +4,7 @@ ghost use Rattle.std.specs.Prelude.{◌≡◌, ◌∷◌, [], IfOk, MatchResult}
 ghost use Rattle.lid_blif_tests.specs.Examples.{lone_design, lone_model};
 ghost use Rattle.lid_blifout.specs.Writable.{IsWritable};
 
-use lid_base::{Items, Name};
+use lid_base::{Items, Name, copy_name};
 use lid_blif::{BlifFault, read};
 use lid_blifout::{append_models, write};
 use lid_design::{Bind, Design, Model};
@@ -137,9 +137,7 @@ fn bindings_split_at_their_first_equals_sign(rt: HostRuntime) {
 fn name(alloc: Global, letter: u8) -> Result<Name, AllocError>
     ensures { IfOk result (λ name. name ≡ letter ∷ []) }
 {
-    let mut bytes = Vec::new(alloc);
-    bytes.push(letter)?;
-    Ok(Items::from_vec(bytes))
+    copy_name(alloc, &[letter])
 }
 
 /// A model without anything in it.

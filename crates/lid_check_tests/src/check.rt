@@ -3,7 +3,7 @@
 ghost use Rattle.lid_design.specs.WellFormed.{IsWellFormed};
 
 use crate::told::{Told, design_of, tells};
-use lid_base::{Items, Name};
+use lid_base::{Name, copy_name};
 use lid_check::{Checked, check};
 use lid_design::Design;
 use std::alloc::{AllocError, Global};
@@ -31,7 +31,7 @@ const SET: &str =
 .end\n.model p\n.inputs a c\n.outputs b\n.latch a b re c 1\n.end\n";
 
 fn name(alloc: Global, text: &str) -> Result<Name, AllocError> {
-    Ok(Items::from_vec(text.as_bytes().to_vec(alloc)?))
+    copy_name(alloc, text.as_bytes())
 }
 
 fn is(found: &[Name], text: &str) -> bool {

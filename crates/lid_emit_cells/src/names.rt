@@ -6,7 +6,7 @@ ghost use Rattle.lid_emit_cells.specs.Drafts.{name_at};
 
 use crate::pen::Pen;
 use crate::wire::Wire;
-use lid_base::{Items, Name, append_number, copy_name};
+use lid_base::{Name, append_number, copy_name};
 use lid_emit_meaning::{BLOCK_NAME, OFFER_NAME, STOP_NAME, VALID_NAME};
 use std::alloc::{AllocError, Global};
 
@@ -51,7 +51,7 @@ impl Pen<'_> {
         let mut name = Vec::from_slice(self.alloc, self.naming.prefix)?;
         name.push(letter)?;
         append_number(u64::from(a), &mut name)?;
-        Ok(Items::from_vec(name))
+        Ok(Name::from_vec(name))
     }
 
     /// The prefix, a letter and two numbers.
@@ -63,7 +63,7 @@ impl Pen<'_> {
         append_number(u64::from(a), &mut name)?;
         name.push(b'_')?;
         append_number(u64::from(b), &mut name)?;
-        Ok(Items::from_vec(name))
+        Ok(Name::from_vec(name))
     }
 
     /// The prefix, a letter and three numbers.
@@ -77,7 +77,7 @@ impl Pen<'_> {
         append_number(u64::from(b), &mut name)?;
         name.push(b'_')?;
         append_number(u64::from(c), &mut name)?;
-        Ok(Items::from_vec(name))
+        Ok(Name::from_vec(name))
     }
 }
 
@@ -87,6 +87,6 @@ fn port_name(alloc: Global, names: &[Name], j: u32) -> Result<Name, AllocError>
 {
     match names.get(j as usize) {
         Some(name) => copy_name(alloc, name.as_slice()),
-        None => Ok(Items::from_vec(Vec::new(alloc))),
+        None => Ok(Name::from_vec(Vec::new(alloc))),
     }
 }

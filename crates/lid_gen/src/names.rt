@@ -14,7 +14,7 @@ pub fn numbered(alloc: Global, word: &[u8], digit: u32) -> Result<Name, AllocErr
 {
     let mut name = Vec::from_slice(alloc, word)?;
     name.push(b'0' + digit as u8)?;
-    Ok(Items::from_vec(name))
+    Ok(Name::from_vec(name))
 }
 
 /// The names with this word and the digits from 0 to 3.
@@ -34,7 +34,7 @@ pub fn letter(alloc: Global, letter: u8) -> Result<Name, AllocError>
 {
     let mut name = Vec::new(alloc);
     name.push(letter)?;
-    Ok(Items::from_vec(name))
+    Ok(Name::from_vec(name))
 }
 
 /// The net at the output of a shell that has the letter.
@@ -46,7 +46,7 @@ pub fn shell_net(alloc: Global, shell: u32, letter: u8) -> Result<Name, AllocErr
     append_number(u64::from(shell), &mut name)?;
     name.push(b'_')?;
     name.push(letter)?;
-    Ok(Items::from_vec(name))
+    Ok(Name::from_vec(name))
 }
 
 /// The net at a place of the list of nets: the inputs of the root, and then the two outputs of each shell.

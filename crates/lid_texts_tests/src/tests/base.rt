@@ -127,10 +127,10 @@ pub fn is_fetched<S: Shelf>(
 }
 
 pub fn file(alloc: Global, name: &[u8], bytes: &[u8]) -> Result<File, AllocError> {
-    let name = Vec::from_slice(alloc, name)?;
+    let name = copy_name(alloc, name)?;
     let bytes = Vec::from_slice(alloc, bytes)?;
     Ok(File {
-        name: Items::from_vec(name),
+        name,
         bytes: Items::from_vec(bytes),
     })
 }

@@ -1,6 +1,6 @@
 //! Texts of rows with the answers that the format gives them, worked out by hand.
 
-use lid_base::{Items, Name, Which};
+use lid_base::{Name, Which, copy_name};
 use lid_texts::{Rows, VecFault, print_rows, read_rows};
 use std::alloc::{AllocError, Global};
 
@@ -33,8 +33,7 @@ pub(crate) fn told(fault: VecFault) -> Told {
 pub(crate) fn columns(alloc: Global, letters: &[u8]) -> Result<Vec<Name>, AllocError> {
     let mut names = Vec::new(alloc);
     for letter in letters {
-        let name = Vec::from_slice(alloc, &[*letter])?;
-        names.push(Items::from_vec(name))?;
+        names.push(copy_name(alloc, &[*letter])?)?;
     }
     Ok(names)
 }

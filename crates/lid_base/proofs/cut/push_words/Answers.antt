@@ -5,8 +5,8 @@ use Rattle.lid_base.proofs.Results.{given_err}
 use Rattle.lid_base.proofs.Lists.{IsPartway, partway_next, partway_done, partway_part}
 use Rattle.lid_base.proofs.cut.push_words.Goals as goal
 
-pub returns-in_err-from_slice-clause-err : goal.returns-in_err-from_slice-clause-err
-returns-in_err-from_slice-clause-err c =
+pub returns-in_err-copy_name-clause-err : goal.returns-in_err-copy_name-clause-err
+returns-in_err-copy_name-clause-err c =
     given_err c.from_residual.result
     (partway_part c.args.words.now.items c.loop-word.words.items (words_of c.args.line.now) (words_in c.loop-word.rest.now) c.loop-word.invariant)
 
@@ -20,7 +20,7 @@ pub loop-word-preserved : goal.loop-word-preserved
 loop-word-preserved c =
     partway_next c.args.words.now.items c.loop-word.words.items c.push.new.self.items (words_of c.args.line.now) _ (words_in c.in-Some.after.now)
     (subst (λ (left : List (List ℕ)). IsPartway c.args.words.now.items c.loop-word.words.items (words_of c.args.line.now) left) c.in-Some.ensures.words c.loop-word.invariant)
-    (c.in_ok-push.ensures.items ∙ ap (λ (word : List ℕ). c.loop-word.words.items ++ word ∷ []) (c.from_vec.ensures ∙ c.in_ok-from_slice.ensures.items))
+    (c.in_ok-push.ensures.items ∙ ap (λ (word : List ℕ). c.loop-word.words.items ++ word ∷ []) c.in_ok-copy_name.ensures)
 
 pub returns-clause-ok : goal.returns-clause-ok
 returns-clause-ok c =
