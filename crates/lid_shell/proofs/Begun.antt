@@ -1,6 +1,5 @@
 -- Actors that have not fired.
-use Rattle.std.proofs.Common.{◌≡◌, ℕ, ◌+◌, ◌-◌, ◌<◌, ◌≤◌, List, [], length, sym, ◌∙◌, subst, arith}
-use Rattle.std.specs.Prelude.{vec_capacity}
+use Rattle.std.proofs.Common.{◌≡◌, ℕ, ◌+◌, ◌-◌, ◌<◌, ◌≤◌, List, [], length, take, sym, ◌∙◌, ap, subst, arith}
 use Rattle.lid_system.specs.declared.System.{System}
 use Rattle.lid_stations.specs.Placements.{links_of}
 use Rattle.lid_shell_laws.proofs.Ends.{drained_is}
@@ -89,12 +88,10 @@ new_sink r m ins rows d part setup many same_ins desk is =
 -- its rows
 pub new_rows : (m : Setup) (node : SinkView) (width rows : ℕ) (g : Given) → length m.input ≡ rows → width ≡ length node.reads → IsNewGiven m.system width rows g → HasGivenRows m (sink (plan m)) 0 node g
 new_rows m node width rows g many wide is =
-    let spare : length g.spare.items ≡ rows = is.many in
-    let room : rows ≤ vec_capacity g.done = is.room in
     record {
       columns_are = is.columns_are;
-      done_are = is.none;
-      spare_are = λ k d within. is.wide k d within ∙ wide;
-      many = omega arith;
-      room = omega arith;
+      given_are = ap (λ (n : ℕ). take n g.rows.items) is.none;
+      count_is = is.none;
+      wide = λ k d within. is.wide k d within ∙ wide;
+      many = is.many ∙ sym many;
     }

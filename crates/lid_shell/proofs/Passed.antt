@@ -1,9 +1,9 @@
 -- What the parts of actors make of the tokens of a firing.
-use Rattle.std.proofs.Common.{◌≡◌, ℕ, zero, suc, ◌+◌, ◌-◌, ◌<◌, ◌≤◌, Bool, List, [], ◌∷◌, ◌++◌, length, get_or, map, set, refl, sym, ◌∙◌, ap, subst, arith}
-use Rattle.std.specs.Prelude.{Some, slice_get, vec_capacity}
+use Rattle.std.proofs.Common.{◌≡◌, ℕ, zero, suc, ◌+◌, ◌-◌, ◌<◌, ◌≤◌, Bool, List, [], ◌∷◌, ◌++◌, length, take, get_or, map, set, refl, sym, ◌∙◌, ap, subst, arith}
+use Rattle.std.specs.Prelude.{Some, slice_get}
 use Rattle.std.specs.List.{All}
-use Rattle.std.specs.Global.{Vec}
-use Rattle.std.proofs.lemmas.List.{length-map, length_push, nil_from_length}
+use Rattle.std.proofs.lemmas.List.{length-map, length-set, take_more_set, nil_from_length}
+use Rattle.std.proofs.lemmas.List.Elements.{All-set}
 use Rattle.lid_base.proofs.Lists.{all_at}
 use Rattle.lid_system.specs.declared.Node.TheVariants as kind
 use Rattle.lid_system.specs.Streams.{token_at, output_row}
@@ -18,7 +18,7 @@ use Rattle.lid_shell.specs.declared.part.Role.TheVariants.{Shell, Mover, Sink}
 use Rattle.lid_shell.specs.Parts.{HasGivenRows}
 use Rattle.lid_shell.specs.Inside.{ActorsGoByRules, IsPassing, HasPassed, CanReceive, Receives, tokens_made}
 use Rattle.lid_shell.proofs.Streams.{cap_early, cap_late, cap_within, sink_fills_none, node_takes, node_makes, mover_makes}
-use Rattle.lid_base.proofs.Each.{each_append, each_length}
+use Rattle.lid_base.proofs.Each.{each_append}
 
 -- a node drains a station for each channel that leads to it, and fills one for each that comes from it
 pub ins_many : (r : ActorsGoByRules) (m : Setup) (v : ℕ) → IsSetup m → v < length m.system.nodes → length (ins_of (plan m) v) ≡ length (channels_to m.system.channels v)
@@ -112,33 +112,18 @@ mover_passed r m v fired taken into outs p same =
     record { makes = same ∙ p.takes ∙ sym (mover_makes r m v fired p.rules p.is p.there); is = p.is }
 
 -- the sink
-pub sink_can : (r : ActorsGoByRules) (m : Setup) (v fired : ℕ) (taken : List ℕ) (outs : ℕ) (node : SinkView) (rows : Given) → IsPassing m v fired taken outs (Sink node rows) → length rows.done.items ≡ fired → CanReceive rows node (length taken)
-sink_can r m v fired taken outs node rows p done =
+pub sink_can : (r : ActorsGoByRules) (m : Setup) (v fired : ℕ) (taken : List ℕ) (outs : ℕ) (node : SinkView) (rows : Given) → IsPassing m v fired taken outs (Sink node rows) → CanReceive rows node (length taken)
+sink_can r m v fired taken outs node rows p =
     let last : v + 1 ≡ length m.system.nodes = p.is.0.last in
     let c : cap (plan m) v ≡ length m.input = cap_late m v (omega arith) in
     let below : fired < cap (plan m) v = p.below in
-    let many : length rows.spare.items + fired ≡ length m.input = p.is.1.many in
-    let room : length m.input ≤ vec_capacity rows.done = p.is.1.room in
+    let many : length rows.rows.items ≡ length m.input = p.is.1.many in
+    let count : rows.count ≡ fired = p.is.1.count_is in
     record {
       takes = taken_many m v fired taken outs (Sink node rows) p ∙ ins_many r m v p.rules (omega arith) ∙ sym p.is.0.many;
-      wide = p.is.1.spare_are;
-      some = omega arith;
+      wide = p.is.1.wide;
       room = omega arith;
     }
-
-pub done_many : (m : Setup) (v fired : ℕ) (node : SinkView) (rows : Given) → HasGivenRows m v fired node rows → length rows.done.items ≡ fired
-done_many m v fired node rows given = ap length given.done_are ∙ each_length (output_row m.system m.table) 0 fired
-
--- what stands in a list to which one was pushed
-before : {A : Type 0} (xs : List A) (x : A) (k : ℕ) (d : A) → k < length xs → get_or (xs ++ x ∷ []) k d ≡ get_or xs k d
-before [] x k d within = absurd (omega arith)
-before (y ∷ xs) x zero d within = refl
-before (y ∷ xs) x (suc k) d within = before xs x k d (omega arith)
-
-all_before : (P : Vec Bool → Type 0) (xs : List (Vec Bool)) (x : Vec Bool) → All P (xs ++ x ∷ []) → All P xs
-all_before P xs x all k d within =
-    let long : length (xs ++ x ∷ []) ≡ length xs + 1 = length_push xs x in
-    subst P (before xs x k d within) (all k d (omega arith))
 
 -- a list that has no first element is empty
 pub none_of : (xs : List ℕ) → ((x : ℕ) → slice_get xs 0 ≡ Some x → ⊥) → xs ≡ []
@@ -151,24 +136,25 @@ sink_passed r m v fired taken into outs node rows new p received long =
     let last : v + 1 ≡ length m.system.nodes = p.is.0.last in
     let c : cap (plan m) v ≡ length m.input = cap_late m v (omega arith) in
     let below : fired < cap (plan m) v = p.below in
-    let many : length rows.spare.items + fired ≡ length m.input = p.is.1.many in
-    let room : length m.input ≤ vec_capacity rows.done = p.is.1.room in
+    let many : length rows.rows.items ≡ length m.input = p.is.1.many in
+    let count : rows.count ≡ fired = p.is.1.count_is in
     let puts : outs ≡ length (outs_of (plan m) v) = p.puts in
-    let spare : length rows.spare.items ≡ length new.spare.items + 1 = ap length received.spare.1 ∙ length_push new.spare.items received.spare.0 in
-    let row : received.done.0 ≡ output_row m.system m.table fired =
-    received.done.2 m.system m.input m.table v fired p.rules.system p.rules.table (omega arith) p.is.0 (p.takes ∙ node_takes r m v fired p.rules (omega arith)) in
+    let row : received.row ≡ output_row m.system m.table fired =
+    received.makes m.system m.input m.table v fired p.rules.system p.rules.table (omega arith) p.is.0 (p.takes ∙ node_takes r m v fired p.rules (omega arith)) in
     let zero_from : 0 + fired ≡ fired = omega arith in
     let given : HasGivenRows m v (fired + 1) node new =
     record {
       columns_are = (p.is.1.columns_are.0, subst (λ (c : List (List ℕ)). slice_get m.system.nodes v ≡ Some (kind.Sink c p.is.1.columns_are.0)) (sym received.columns) p.is.1.columns_are.1);
-      done_are =
-          received.done.1
-          ∙ ap (λ (xs : List (List Bool)). xs ++ received.done.0 ∷ []) p.is.1.done_are
+      given_are =
+          ap (λ (n : ℕ). take n new.rows.items) received.count
+          ∙ ap (take (rows.count + 1)) received.rows
+          ∙ take_more_set rows.rows.items rows.count received.row (omega arith)
+          ∙ ap (λ (xs : List (List Bool)). xs ++ received.row ∷ []) p.is.1.given_are
           ∙ ap (λ (x : List Bool). output_rows m fired ++ x ∷ []) (row ∙ ap (output_row m.system m.table) (sym zero_from))
           ∙ sym (each_append (output_row m.system m.table) 0 fired 1);
-      spare_are = all_before (λ x. length x.items ≡ length node.reads) new.spare.items received.spare.0 (subst (All (λ x. length x.items ≡ length node.reads)) received.spare.1 p.is.1.spare_are);
-      many = omega arith;
-      room = subst (λ (n : ℕ). length m.input ≤ n) (sym received.room) room;
+      count_is = received.count ∙ ap (λ (n : ℕ). n + 1) count;
+      wide = subst (All (λ row. length row ≡ length node.reads)) (sym received.rows) (All-set (λ row. length row ≡ length node.reads) rows.rows.items rows.count received.row received.wide p.is.1.wide);
+      many = ap length received.rows ∙ length-set rows.rows.items rows.count received.row ∙ many;
     } in
     let none : outs_of (plan m) v ≡ [] = none_of (outs_of (plan m) v) (λ s at. sink_fills_none r m v 0 s p.rules last at) in
     let nothing : length (outs_of (plan m) v) ≡ 0 = ap length none in

@@ -1,7 +1,6 @@
 -- Serves the bodies: what an actor's desk and part are while a firing goes on, and what each act does to them.
-use Rattle.std.specs.Prelude.{◌≡◌, ℕ, ◌+◌, ◌<◌, ◌≤◌, ◌==◌, Bool, true, false, List, [], ◌∷◌, ◌++◌, length, map, Option, Some, None, slice_get, vec_capacity}
+use Rattle.std.specs.Prelude.{◌≡◌, ℕ, ◌+◌, ◌<◌, ◌≤◌, ◌==◌, Bool, true, false, List, [], ◌∷◌, length, map, set, Option, Some, None, slice_get}
 use Rattle.std.specs.List.{All}
-use Rattle.std.specs.Global.{Vec}
 use Rattle.lid_base.specs.declared.runs.Answer.{Answer}
 use Rattle.lid_base.specs.declared.runs.Answer.TheVariants as answer
 use Rattle.lid_design.specs.Network.{Table}
@@ -90,19 +89,20 @@ pub record CanPass (fired : ℕ) (taken : List ℕ) (outs : ℕ) (part : Role) :
   pub number : ℕ
   pub passing : IsPassing setup number fired taken outs part
 
--- a sink has a spare row for the row that it makes, and room for it
+-- a sink has room for the row that it makes
 pub record CanReceive (rows : Given) (node : SinkView) (taken : ℕ) : Type 0 where
   pub takes : taken ≡ node.taken
-  pub wide : All (λ row. length row.items ≡ length node.reads) rows.spare.items
-  pub some : 0 < length rows.spare.items
-  pub room : length rows.done.items < vec_capacity rows.done
+  pub wide : All (λ row. length row ≡ length node.reads) rows.rows.items
+  pub room : rows.count < length rows.rows.items
 
--- it has made a row of the tokens that it takes
+-- it has made a row of the tokens that it takes, and given it
 pub record Receives (old : Given) (node : SinkView) (taken : List ℕ) (new : Given) : Type 0 where
   pub columns : new.columns ≡ old.columns
-  pub done : (row : List Bool) × (new.done.items ≡ old.done.items ++ row ∷ []) × MakesRow node taken row
-  pub spare : (row : Vec Bool) × (old.spare.items ≡ new.spare.items ++ row ∷ [])
-  pub room : vec_capacity new.done ≡ vec_capacity old.done
+  pub count : new.count ≡ old.count + 1
+  pub row : List Bool
+  pub makes : MakesRow node taken row
+  pub wide : length row ≡ length node.reads
+  pub rows : new.rows.items ≡ set old.rows.items old.count row
 
 -- the part has taken them and made those that are put
 pub record HasPassed (m : Setup) (v fired : ℕ) (into : List ℕ) (part : Role) : Type 0 where

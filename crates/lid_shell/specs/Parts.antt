@@ -1,6 +1,6 @@
 -- What stands at the parts of actors: the source has the input rows, a shell its pearl in the state of a row, and
 -- the sink the rows that it has given and room for the others.
-use Rattle.std.specs.Prelude.{◌≡◌, ℕ, ◌+◌, ◌<◌, ◌≤◌, List, length, Some, slice_get, vec_capacity}
+use Rattle.std.specs.Prelude.{◌≡◌, ℕ, ◌+◌, ◌<◌, ◌≤◌, Bool, List, length, take, Some, slice_get}
 use Rattle.std.specs.List.{All}
 use Rattle.lid_system.specs.declared.Node.TheVariants as node
 use Rattle.lid_system.specs.declared.InBit.{InBit}
@@ -22,13 +22,17 @@ pub record HasInput (m : Setup) (input : Input) : Type 0 where
   pub rows_are : input_of input.rows ≡ m.input
   pub room : length input.row.items ≡ input.node.width
 
+-- the rows that a sink has given
+abbrev pub rows_given : Given → List (List Bool)
+rows_given rows = take rows.count rows.rows.items
+
 -- the rows of a sink that has fired so often: as many strict output rows, and room for one of each firing to come
 pub record HasGivenRows (m : Setup) (v fired : ℕ) (node : SinkView) (rows : Given) : Type 0 where
   pub columns_are : AreColumnsAtSink m v rows.columns
-  pub done_are : rows.done.items ≡ output_rows m fired
-  pub spare_are : All (λ row. length row.items ≡ length node.reads) rows.spare.items
-  pub many : length rows.spare.items + fired ≡ length m.input
-  pub room : length m.input ≤ vec_capacity rows.done
+  pub given_are : rows_given rows ≡ output_rows m fired
+  pub count_is : rows.count ≡ fired
+  pub wide : All (λ row. length row ≡ length node.reads) rows.rows.items
+  pub many : length rows.rows.items ≡ length m.input
 
 -- the part of actor v that has fired so often, and whose pearl, where it is a shell, is in the state of row t
 abbrev pub IsRole : Setup → ℕ → ℕ → ℕ → Role → Type 0

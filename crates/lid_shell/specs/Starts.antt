@@ -1,5 +1,5 @@
 -- Serves the bodies: desks and sinks before a run has begun.
-use Rattle.std.specs.Prelude.{◌≡◌, ℕ, ◌-◌, ◌≤◌, List, [], length, Some, slice_get, vec_capacity}
+use Rattle.std.specs.Prelude.{◌≡◌, ℕ, ◌-◌, List, [], length, Some, slice_get}
 use Rattle.std.specs.List.{All}
 use Rattle.lid_system.specs.declared.System.{System}
 use Rattle.lid_system.specs.declared.Node.TheVariants as node
@@ -30,7 +30,6 @@ AreSinkColumns s columns = (ins : List InBit) × (slice_get s.nodes (length s.no
 -- the rows of a sink that has given none
 pub record IsNewGiven (s : System) (width rows : ℕ) (g : Given) : Type 0 where
   pub columns_are : AreSinkColumns s g.columns
-  pub none : g.done.items ≡ []
-  pub wide : All (λ row. length row.items ≡ width) g.spare.items
-  pub many : length g.spare.items ≡ rows
-  pub room : rows ≤ vec_capacity g.done
+  pub none : g.count ≡ 0
+  pub wide : All (λ row. length row ≡ width) g.rows.items
+  pub many : length g.rows.items ≡ rows

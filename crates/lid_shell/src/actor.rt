@@ -252,7 +252,7 @@ impl<'r> Actor<'r> {
         ensures rows { (m : Setup) (v : ℕ) (q : Progress) → IsActor m v q self.now → IfSome result (λ rows. rows.now ≡ output_rows m q.fired) }
     {
         match &self.part {
-            Role::Sink(_, given) => Some(given.done.as_slice()),
+            Role::Sink(_, given) => Some(given.done()),
             Role::Source(_) | Role::Shell(_) | Role::Mover => None,
         }
     }

@@ -77,15 +77,15 @@ pub(crate) fn mover_desk(alloc: Global, from: u32, to: u32, cap: u64) -> Desk
 }
 
 /// So many rows of a width.
-fn spare_rows(alloc: Global, width: usize, rows: u64) -> Result<Vec<Vec<bool>>, AllocError>
-    ensures many { IfOk result (λ spare. length spare.items ≡ rows) }
-    ensures wide { IfOk result (λ spare. All (λ row. length row.items ≡ width) spare.items) }
+fn make_rows(alloc: Global, width: usize, rows: u64) -> Result<Vec<Items<bool>>, AllocError>
+    ensures many { IfOk result (λ made. length made.items ≡ rows) }
+    ensures wide { IfOk result (λ made. All (λ row. length row ≡ width) made.items) }
 {
-    let mut spare = Vec::new(alloc);
+    let mut made = Vec::with_capacity(alloc, rows as usize)?;
     for _i in 0..rows {
-        spare.push(Vec::from_elem(alloc, false, width)?)?;
+        made.push(Items::from_vec(Vec::from_elem(alloc, false, width)?))?;
     }
-    Ok(spare)
+    Ok(made)
 }
 
 /// The names of the columns of the sink.
@@ -111,11 +111,11 @@ pub(crate) fn new_given(
     ensures { IfOk result (IsNewGiven system.now width rows) }
 {
     let columns = sink_columns(alloc, system)?;
-    let spare = spare_rows(alloc, width, rows)?;
-    let done = Vec::with_capacity(alloc, rows as usize)?;
+    let rows = make_rows(alloc, width, rows)?;
     Ok(Given {
         columns,
-        done,
-        spare,
+        rows,
+        count: 0,
+        alloc,
     })
 }

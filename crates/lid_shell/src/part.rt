@@ -1,11 +1,13 @@
 //! The part of an actor.
 
-ghost use Rattle.std.specs.Prelude.{◌≡◌};
+ghost use Rattle.std.specs.Prelude.{◌≡◌, ◌≤◌, length};
+ghost use Rattle.lid_shell.specs.Parts.{rows_given};
 
 use lid_base::{Items, Name};
 use lid_shell_nodes::{ShellNode, SinkNode, SourceNode};
 use lid_texts::Rows;
 use lid_texts_packed::InputRows;
+use std::alloc::Global;
 
 /// The source with all input rows, and room for one of them.
 #[derive(Drop)]
@@ -20,10 +22,11 @@ pub(crate) struct Input<'r> {
 #[derive(Drop)]
 pub(crate) struct Given {
     pub(crate) columns: Items<Name>,
-    /// The rows given, in order.
-    pub(crate) done: Vec<Items<bool>>,
-    /// A row of the sink's width for each firing to come.
-    pub(crate) spare: Vec<Vec<bool>>,
+    /// A row of the sink's width for each firing: first those given, in order.
+    pub(crate) rows: Vec<Items<bool>>,
+    /// How many were given.
+    pub(crate) count: usize,
+    pub(crate) alloc: Global,
 }
 
 /// What an actor is: a node, or a mover.
@@ -40,15 +43,29 @@ pub(crate) enum Role<'r> {
 }
 
 impl Given {
+    /// The rows given.
+    pub(crate) fn done(&self) -> &[Items<bool>]
+        requires { self.now.count ≤ length self.now.rows.items }
+        ensures { result.now ≡ rows_given self.now }
+    {
+        &self.rows[..self.count]
+    }
+
     /// Hands out the rows given.
     pub(crate) fn into_rows(self) -> Rows
         ensures columns { result.columns ≡ self.columns }
-        ensures bits { result.bits ≡ self.done.items }
+        ensures bits { result.bits ≡ rows_given self }
     {
-        let Given { columns, done, .. } = self;
+        let Given {
+            columns,
+            mut rows,
+            count,
+            ..
+        } = self;
+        rows.truncate(count);
         Rows {
             columns,
-            bits: Items::from_vec(done),
+            bits: Items::from_vec(rows),
         }
     }
 }

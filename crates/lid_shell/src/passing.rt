@@ -16,6 +16,7 @@ use crate::part::{Given, Input, Role};
 use crate::rules::actors_go_by_rules;
 use lid_base::Items;
 use lid_shell_nodes::SinkNode;
+use std::mem;
 
 impl Input<'_> {
     /// Writes the tokens of a row, one for each channel that comes from the source.
@@ -37,15 +38,16 @@ impl Input<'_> {
 }
 
 impl Given {
-    /// Writes the row of the tokens that are taken into a spare row, and gives it.
+    /// Gives the row of the tokens that are taken.
     fn receive(&mut self, node: &SinkNode, taken: &[u32])
         requires { CanReceive self.old node.now (length taken.now) }
         ensures { Receives self.old node.now taken.now self.new }
     {
-        if let Some(mut row) = self.spare.pop() {
-            node.give(taken, row.as_mut_slice());
-            self.done.push_reserved(Items::from_vec(row));
-        }
+        let none = Items::from_vec(Vec::new(self.alloc));
+        let mut row = mem::replace(&mut self.rows[self.count], none).into_vec();
+        node.give(taken, row.as_mut_slice());
+        self.rows[self.count] = Items::from_vec(row);
+        self.count += 1;
     }
 }
 

@@ -6,7 +6,7 @@ use Rattle.lid_shell_nodes.specs.Wiring.{SourceView, IsSourceOf}
 use Rattle.lid_texts_packed.specs.Input.{input_of}
 use Rattle.lid_shell.specs.declared.part.Role.{Role}
 use Rattle.lid_shell.specs.Inside.{IsPassing, HasPassed}
-use Rattle.lid_shell.proofs.Passed.{row_there, row_wide, source_many, source_makes, shell_taken, shell_many, mover_one, mover_passed, mover_sets, rows_within, shell_passed, sink_can, done_many, sink_passed}
+use Rattle.lid_shell.proofs.Passed.{row_there, row_wide, source_many, source_makes, shell_taken, shell_many, mover_one, mover_passed, mover_sets, rows_within, shell_passed, sink_can, sink_passed}
 use Rattle.lid_shell.proofs.part.Role.pass.Goals as goal
 
 pub put-requires-clause-there : goal.put-requires-clause-there
@@ -70,7 +70,6 @@ receive-requires c =
     let q = c.requires in
     let p = subst (λ (x : Role). IsPassing q.setup q.number c.args.fired c.args.taken.now (length c.args.into.now) x) c.in-Sink.is q.passing in
     sink_can c.actors_go_by_rules.ensures q.setup q.number c.args.fired c.args.taken.now (length c.args.into.now) c.in-Sink.node c.in-Sink.given p
-    (done_many q.setup q.number c.args.fired c.in-Sink.node c.in-Sink.given p.is.1)
 
 pub returns-in-Source-clause-passes : goal.returns-in-Source-clause-passes
 returns-in-Source-clause-passes c = λ m v passing.

@@ -1,6 +1,0 @@
-use Rattle.std.proofs.Common.{◌≡◌, length}
-use Rattle.std.specs.List.{All}
-use Rattle.lid_shell.proofs.building.spare_rows.Given as goal
-
-abbrev pub invariant-loop-i : goal.invariant-loop-i
-invariant-loop-i l = record { many : length l.spare.items ≡ l._i; wide : All (λ row. length row.items ≡ l.width) l.spare.items }
