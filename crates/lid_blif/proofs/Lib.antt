@@ -4,4 +4,5 @@ pub mod Naming
 pub mod Faults
 pub mod Cubes
 pub mod Texts
-pub mod Spans
+pub mod Sizes
+pub mod Places

@@ -1,0 +1,76 @@
+-- Parts of a text, and the words that lie in them.
+use Rattle.std.proofs.Common.{◌≡◌, ℕ, ◌+◌, ◌-◌, ◌<◌, ◌≤◌, List, [], ◌∷◌, ◌++◌, length, take, drop, map, refl, ap, ◌∙◌, sym, arith, length-drop, length-take, subst}
+use Rattle.std.proofs.lemmas.List.{take-map, drop-map, take-take, drop-take, drop-drop, drop_all, take_rest, length-take-le, length-map}
+use Rattle.std.proofs.lemmas.List.Sums.{count_by-le-length}
+use Rattle.std.proofs.lemmas.List.Splits.{length-slice_split}
+use Rattle.std.specs.List.{slice_split}
+use Rattle.lid_base.specs.Lines.{is_separator, is_word, words_in}
+use Rattle.lid_base.proofs.Lists.{filter_le}
+use Rattle.lid_blif.specs.declared.line.Word.{Word}
+use Rattle.lid_blif.specs.Places.{part_of, word_in, words_at}
+
+pub words_at_front : (text : List ℕ) (words : List Word) (count : ℕ) → words_at text (take count words) ≡ take count (words_at text words)
+words_at_front text words count = sym (take-map (word_in text) count words)
+
+pub words_at_back : (text : List ℕ) (words : List Word) (count : ℕ) → words_at text (drop count words) ≡ drop count (words_at text words)
+words_at_back text words count = sym (drop-map (word_in text) count words)
+
+-- what is left of a part
+part_left : (text : List ℕ) (from to n : ℕ) → from + n ≤ to → drop n (part_of text from to) ≡ part_of text (from + n) to
+part_left text from to n h =
+    let bytes = drop from text in
+    ap (λ m. drop n (take m bytes)) (let e : to - from ≡ n + (to - (from + n)) = omega arith in e)
+    ∙ drop-take n (to - (from + n)) bytes
+    ∙ ap (take (to - (from + n))) (drop-drop n from text)
+
+-- the first bytes of a part
+pub part_front : (text : List ℕ) (from to n : ℕ) → from + n ≤ to → take n (part_of text from to) ≡ part_of text from (from + n)
+part_front text from to n h =
+    take-take n (to - from) (drop from text) (omega arith)
+    ∙ ap (λ m. take m (drop from text)) (let e : n ≡ from + n - from = omega arith in e)
+
+-- a part of a part
+pub part_of_part : (text : List ℕ) (from to start end : ℕ) → start ≤ end → from + end ≤ to → part_of (part_of text from to) start end ≡ part_of text (from + start) (from + end)
+part_of_part text from to start end le h =
+    ap (take (end - start)) (part_left text from to start (omega arith))
+    ∙ take-take (end - start) (to - (from + start)) (drop (from + start) text) (omega arith)
+    ∙ ap (λ m. take m (drop (from + start) text)) (let e : end - start ≡ from + end - (from + start) = omega arith in e)
+
+pub part_length : (text : List ℕ) (from to : ℕ) → to ≤ length text → length (part_of text from to) ≡ to - from
+part_length text from to h = length-take-le (to - from) (drop from text) (omega (arith, length-drop from text))
+
+-- the word that lies where a part lies
+pub word_of_part : (text : List ℕ) (from to : ℕ) → to ≤ length text → take (length (part_of text from to)) (drop from text) ≡ part_of text from to
+word_of_part text from to h = ap (λ n. take n (drop from text)) (part_length text from to h)
+
+-- what is left behind a word and the byte after it
+pub left_behind : (text : List ℕ) (from to end : ℕ) → from + end < to → drop (end + 1) (part_of text from to) ≡ part_of text (from + end + 1) to
+left_behind text from to end h =
+    part_left text from to (end + 1) (omega arith) ∙ ap (λ n. part_of text n to) (let e : from + (end + 1) ≡ from + end + 1 = omega arith in e)
+
+pub left_at_end : (text : List ℕ) (from to end : ℕ) → to ≤ length text → to ≤ from + end → drop (end + 1) (part_of text from to) ≡ part_of text to to
+left_at_end text from to end within h =
+    drop_all (end + 1) (part_of text from to) (omega (arith, part_length text from to within))
+    ∙ ap (λ n. take n (drop to text)) (let e : 0 ≡ to - to = omega arith in e)
+
+-- bytes have at most one word more than bytes
+pub words_in_le : (bytes : List ℕ) → length (words_in bytes) ≤ length bytes + 1
+unfolding words_in
+words_in_le bytes =
+    omega (arith, filter_le is_word (slice_split is_separator bytes), length-slice_split is_separator bytes, count_by-le-length is_separator bytes)
+
+-- the first word of some bytes, which ends at their end or at a separator
+pub word_to_end : (bytes rest : List ℕ) (start : ℕ) → rest ≡ drop start bytes → words_in bytes ≡ rest ∷ words_in [] → words_in bytes ≡ part_of bytes start (length bytes) ∷ words_in (drop (length bytes + 1) bytes)
+word_to_end bytes rest start e h =
+    h ∙ ap (λ (word : List ℕ). word ∷ words_in []) (e ∙ sym (take_rest bytes start))
+    ∙ ap (λ (left : List ℕ). part_of bytes start (length bytes) ∷ words_in left) (sym (drop_all (length bytes + 1) bytes (omega arith)))
+
+pub word_to_separator : (bytes rest : List ℕ) (start n : ℕ) → rest ≡ drop start bytes → words_in bytes ≡ take n rest ∷ words_in (take (length rest - (n + 1)) (drop (n + 1) rest))
+    → words_in bytes ≡ part_of bytes start (start + n) ∷ words_in (drop (start + n + 1) bytes)
+word_to_separator bytes rest start n e h =
+    let word : take n rest ≡ part_of bytes start (start + n) =
+    ap (take n) e ∙ ap (λ m. take m (drop start bytes)) (let same : n ≡ start + n - start = omega arith in same) in
+    let left : take (length rest - (n + 1)) (drop (n + 1) rest) ≡ drop (start + n + 1) bytes =
+    take_rest rest (n + 1) ∙ ap (drop (n + 1)) e ∙ drop-drop (n + 1) start bytes ∙ ap (λ m. drop m bytes) (let same : start + (n + 1) ≡ start + n + 1 = omega arith in same) in
+    h ∙ ap (λ (first : List ℕ). first ∷ words_in (take (length rest - (n + 1)) (drop (n + 1) rest))) word
+    ∙ ap (λ (after : List ℕ). part_of bytes start (start + n) ∷ words_in after) left
