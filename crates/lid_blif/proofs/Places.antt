@@ -1,10 +1,11 @@
 -- Parts of a text, and the words that lie in them.
-use Rattle.std.proofs.Common.{◌≡◌, ℕ, ◌+◌, ◌-◌, ◌<◌, ◌≤◌, List, [], ◌∷◌, ◌++◌, length, take, drop, map, refl, ap, ◌∙◌, sym, arith, length-drop, length-take, subst}
-use Rattle.std.proofs.lemmas.List.{take-map, drop-map, take-take, drop-take, drop-drop, drop_all, take_rest, length-take-le, length-map}
+use Rattle.std.proofs.Common.{◌≡◌, ℕ, ◌+◌, ◌-◌, ◌<◌, ◌≤◌, Bool, true, false, ◌||◌, List, [], ◌∷◌, ◌++◌, length, take, drop, refl, ap, ◌∙◌, sym, arith, length-append, length-drop, length-take, subst, append_assoc}
+use Rattle.std.proofs.lemmas.Bool.{cond-true, cond-false}
+use Rattle.std.proofs.lemmas.List.{take-map, drop-map, take-take, take_min, drop-take, drop-drop, drop_all, take_rest, length-take-le, length-map, map-append}
 use Rattle.std.proofs.lemmas.List.Sums.{count_by-le-length}
 use Rattle.std.proofs.lemmas.List.Splits.{length-slice_split}
-use Rattle.std.specs.List.{slice_split}
-use Rattle.lid_base.specs.Lines.{is_separator, is_word, words_in}
+use Rattle.std.specs.List.{slice_split, list_any}
+use Rattle.lid_base.specs.Lines.{is_separator, is_word, ends_in_mark, content_of, trimmed, without_mark, words_in, words_of}
 use Rattle.lid_base.proofs.Lists.{filter_le}
 use Rattle.lid_blif.specs.declared.line.Word.{Word}
 use Rattle.lid_blif.specs.Places.{part_of, word_in, words_at}
@@ -74,3 +75,75 @@ word_to_separator bytes rest start n e h =
     take_rest rest (n + 1) ∙ ap (drop (n + 1)) e ∙ drop-drop (n + 1) start bytes ∙ ap (λ m. drop m bytes) (let same : start + (n + 1) ≡ start + n + 1 = omega arith in same) in
     h ∙ ap (λ (first : List ℕ). first ∷ words_in (take (length rest - (n + 1)) (drop (n + 1) rest))) word
     ∙ ap (λ (after : List ℕ). part_of bytes start (start + n) ∷ words_in after) left
+
+-- a front of a list
+front_le : (front whole : List ℕ) → take (length front) whole ≡ front → length front ≤ length whole
+front_le front whole h = omega (arith, ap length h, length-take (length front) whole)
+
+front_less : (front whole : List ℕ) (n : ℕ) → take (length front) whole ≡ front → n ≤ length front → take n whole ≡ take n front
+front_less front whole n h le = sym (take-take n (length front) whole le) ∙ ap (take n) h
+
+front_of_front : (front middle whole : List ℕ) → take (length front) middle ≡ front → take (length middle) whole ≡ middle → take (length front) whole ≡ front
+front_of_front front middle whole h g = front_less middle whole (length front) g (front_le front middle h) ∙ h
+
+taken_front : (n : ℕ) (whole : List ℕ) → take (length (take n whole)) whole ≡ take n whole
+taken_front n whole = ap (λ m. take m whole) (length-take n whole) ∙ take_min n whole
+
+content_front : (line : List ℕ) → take (length (content_of line)) line ≡ content_of line
+unfolding content_of
+content_front line = taken_front _ line
+
+trimmed_front : (bytes : List ℕ) → take (length (trimmed bytes)) bytes ≡ trimmed bytes
+unfolding trimmed
+trimmed_front bytes = taken_front _ bytes
+
+kept_front : (line kept : List ℕ) → kept ≡ trimmed (content_of line) → take (length kept) line ≡ kept
+kept_front line kept e =
+    subst (λ (bytes : List ℕ). take (length bytes) line ≡ bytes) (sym e)
+    (front_of_front (trimmed (content_of line)) (content_of line) line (trimmed_front (content_of line)) (content_front line))
+
+pub kept_le : (line kept : List ℕ) → kept ≡ trimmed (content_of line) → length kept ≤ length line
+kept_le line kept e = front_le kept line (kept_front line kept e)
+
+-- the words of a line, up to where they go
+pub words_marked : (line kept : List ℕ) → kept ≡ trimmed (content_of line) → ends_in_mark kept ≡ true → words_in (take (length kept - 1) line) ≡ words_of line
+unfolding words_of
+words_marked line kept e marked =
+    ap words_in
+    (front_less kept line (length kept - 1) (kept_front line kept e) (omega arith)
+    ∙ sym (cond-true (ends_in_mark kept) (take (length kept - 1) kept) kept marked)
+    ∙ ap without_mark e)
+
+pub words_unmarked : (line kept : List ℕ) → kept ≡ trimmed (content_of line) → ends_in_mark kept ≡ false → words_in (take (length kept) line) ≡ words_of line
+unfolding words_of
+words_unmarked line kept e unmarked =
+    ap words_in (kept_front line kept e ∙ sym (cond-false (ends_in_mark kept) (take (length kept - 1) kept) kept unmarked) ∙ ap without_mark e)
+
+-- words that were pushed
+pub words_length : (text : List ℕ) (words : List Word) → length (words_at text words) ≡ length words
+words_length text words = length-map words (word_in text)
+
+pub grown_length : (text : List ℕ) (old new : List Word) (more : List (List ℕ)) → words_at text new ≡ words_at text old ++ more → length new ≡ length old + length more
+grown_length text old new more h = omega (arith, words_length text old, words_length text new, ap length h, length-append (words_at text old) more)
+
+pub pushed : (text : List ℕ) (old new : List Word) (start end : ℕ) (left : List (List ℕ)) → end ≤ length text → new ≡ old ++ record { start = start; len = length (part_of text start end) } ∷ []
+    → words_at text new ++ left ≡ words_at text old ++ part_of text start end ∷ left
+pushed text old new start end left within h =
+    let word : Word = record { start = start; len = length (part_of text start end) } in
+    ap (λ (words : List Word). words_at text words ++ left) h
+    ∙ ap (λ (words : List (List ℕ)). words ++ left) (map-append (word_in text) old (word ∷ []))
+    ∙ append_assoc (words_at text old) (word_in text word ∷ []) left
+    ∙ ap (λ (bytes : List ℕ). words_at text old ++ bytes ∷ left) (word_of_part text start end within)
+
+pub any_pushed : (p : List ℕ → Bool) (before : Bool) (word : List ℕ) (left : List (List ℕ)) → ((before || p word) || list_any p left) ≡ (before || list_any p (word ∷ left))
+any_pushed p true word left = refl
+any_pushed p false word left = refl
+
+-- the words of a part, cut at the first
+pub first_of_part : (text : List ℕ) (from to start end next : ℕ) → start ≤ end → from + end ≤ to
+    → words_in (part_of text from to) ≡ part_of (part_of text from to) start end ∷ words_in (drop (end + 1) (part_of text from to)) → drop (end + 1) (part_of text from to) ≡ part_of text next to
+    → words_in (part_of text from to) ≡ part_of text (from + start) (from + end) ∷ words_in (part_of text next to)
+first_of_part text from to start end next le within first left =
+    first
+    ∙ ap (λ (word : List ℕ). word ∷ words_in (drop (end + 1) (part_of text from to))) (part_of_part text from to start end le within)
+    ∙ ap (λ (bytes : List ℕ). part_of text (from + start) (from + end) ∷ words_in bytes) left
