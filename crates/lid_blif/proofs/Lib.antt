@@ -6,3 +6,4 @@ pub mod Cubes
 pub mod Texts
 pub mod Sizes
 pub mod Places
+pub mod Cuts

@@ -9,6 +9,10 @@ unfolding logical_lines text_fault physical_lines
 loop-left-init c = record {
   lines = c.new-joined.ensures.lines _ ∙ open_lines_fresh 1 (slice_split is_newline c.args.bytes.now);
   joined = c.new-joined.ensures.joined;
+  text = c.new-joined.ensures.text;
   fault = refl;
   low = omega arith;
+  place = record { within = omega arith; is = refl };
+  few = omega (arith, c.new-joined.ensures.empty);
+  short = omega arith;
 }

@@ -1,5 +1,4 @@
-use Rattle.std.proofs.Common.{List, ap, ◌∙◌, take, drop}
-use Rattle.lid_blif.specs.declared.line.Word.{Word}
+use Rattle.std.proofs.Common.{ap, ◌∙◌, take, drop}
 use Rattle.lid_blif.specs.Places.{words_at}
 use Rattle.lid_blif.proofs.Places.{words_at_front, words_at_back}
 use Rattle.lid_blif.proofs.line.TextWords.part.Goals as goal
