@@ -1,10 +1,11 @@
 -- What is left of a text while lines are cut from it.
-use Rattle.std.proofs.Common.{◌≡◌, ℕ, ◌+◌, ◌<◌, ◌≤◌, List, [], ◌∷◌, ◌++◌, length, take, drop, Option, Some, None, refl, ap, ◌∙◌, sym, arith, length-append}
+use Rattle.std.proofs.Common.{◌-◌, append-nil, ◌≡◌, ℕ, ◌+◌, ◌<◌, ◌≤◌, List, [], ◌∷◌, ◌++◌, length, take, drop, Option, Some, None, refl, ap, ◌∙◌, sym, arith, length-append}
 use Rattle.std.proofs.Math.Seq.{drop-length, take-append_seam}
 use Rattle.std.proofs.lemmas.List.{drop-append-le, drop-drop}
 use Rattle.std.proofs.lemmas.List.Splits.{join_with_byte-slice_split, length-slice_split}
 use Rattle.std.specs.List.{slice_split, join_with_byte}
-use Rattle.lid_base.specs.Lines.{is_newline}
+use Rattle.lid_base.specs.Lines.{is_newline, line_fault, first_fault}
+use Rattle.lid_base.specs.declared.line.TextFault.{TextFault}
 use Rattle.lid_base.specs.Cuts.{lines_left}
 use Rattle.lid_blif.specs.Places.{part_of}
 
@@ -79,3 +80,10 @@ cut_off text from bytes line (Some rest) held h =
       };
       work = omega (arith, long);
     }
+
+-- the first fault of lines whose first has one, or has none
+pub fault_first : (longest : ℕ) (p : ℕ × List ℕ) (ps : List (ℕ × List ℕ)) (fault : TextFault) → line_fault longest p ≡ Some fault → first_fault longest (p ∷ ps) ≡ Some fault
+fault_first longest p ps fault h = rw h refl
+
+pub fault_later : (longest : ℕ) (p : ℕ × List ℕ) (ps : List (ℕ × List ℕ)) → line_fault longest p ≡ None → first_fault longest (p ∷ ps) ≡ first_fault longest ps
+fault_later longest p ps h = rw h refl

@@ -1,5 +1,5 @@
 -- Parts of a text, and the words that lie in them.
-use Rattle.std.proofs.Common.{◌≡◌, ℕ, ◌+◌, ◌-◌, ◌<◌, ◌≤◌, Bool, true, false, ◌||◌, List, [], ◌∷◌, ◌++◌, length, take, drop, refl, ap, ◌∙◌, sym, arith, length-append, length-drop, length-take, subst, append_assoc}
+use Rattle.std.proofs.Common.{cond, ◌≡◌, ℕ, ◌+◌, ◌-◌, ◌<◌, ◌≤◌, Bool, true, false, ◌||◌, List, [], ◌∷◌, ◌++◌, length, take, drop, refl, ap, ◌∙◌, sym, arith, length-append, length-drop, length-take, subst, append_assoc}
 use Rattle.std.proofs.lemmas.Bool.{cond-true, cond-false}
 use Rattle.std.proofs.lemmas.List.{take-map, drop-map, take-take, take_min, drop-take, drop-drop, drop_all, take_rest, length-take-le, length-map, map-append}
 use Rattle.std.proofs.lemmas.List.Sums.{count_by-le-length}
@@ -147,3 +147,21 @@ first_of_part text from to start end next le within first left =
     first
     ∙ ap (λ (word : List ℕ). word ∷ words_in (drop (end + 1) (part_of text from to))) (part_of_part text from to start end le within)
     ∙ ap (λ (bytes : List ℕ). part_of text (from + start) (from + end) ∷ words_in bytes) left
+
+without_mark_le : (bytes : List ℕ) → length (without_mark bytes) ≤ length bytes
+without_mark_le bytes =
+    elim (ends_in_mark bytes) as (λ b. length (cond b (take (length bytes - 1) bytes) bytes) ≤ length bytes) [
+      | true ↦ omega (arith, length-take (length bytes - 1) bytes)
+      | false ↦ omega arith
+    ]
+
+words_of_le : (line : List ℕ) → length (words_of line) ≤ length line + 1
+unfolding words_of
+words_of_le line =
+    let kept = trimmed (content_of line) in
+    omega (arith, words_in_le (without_mark kept), without_mark_le kept, kept_le line kept refl)
+
+-- the words of the lines so far are at most as many as the bytes gone over
+pub words_few : (text : List ℕ) (old new : List Word) (from to : ℕ) → from ≤ to → to ≤ length text → length old ≤ from → words_at text new ≡ words_at text old ++ words_of (part_of text from to) → length new ≤ to + 1
+words_few text old new from to le within few h =
+    omega (arith, grown_length text old new (words_of (part_of text from to)) h, words_of_le (part_of text from to), part_length text from to within)
