@@ -1,5 +1,5 @@
 -- Parts of a text, and the words that lie in them.
-use Rattle.std.proofs.Common.{cond, ◌≡◌, ℕ, ◌+◌, ◌-◌, ◌<◌, ◌≤◌, Bool, true, false, ◌||◌, List, [], ◌∷◌, ◌++◌, length, take, drop, refl, ap, ◌∙◌, sym, arith, length-append, length-drop, length-take, subst, append_assoc}
+use Rattle.std.proofs.Common.{cond, ◌≡◌, ℕ, ◌+◌, ◌-◌, ◌≤◌, Bool, true, false, ◌||◌, List, [], ◌∷◌, ◌++◌, length, take, drop, refl, ap, ◌∙◌, sym, arith, length-append, length-drop, length-take, subst, append_assoc}
 use Rattle.std.proofs.lemmas.Bool.{cond-true, cond-false}
 use Rattle.std.proofs.lemmas.List.{take-map, drop-map, take-take, take_min, drop-take, drop-drop, drop_all, take_rest, length-take-le, length-map, map-append}
 use Rattle.std.proofs.lemmas.List.Sums.{count_by-le-length}
@@ -44,16 +44,6 @@ part_length text from to h = length-take-le (to - from) (drop from text) (omega 
 pub word_of_part : (text : List ℕ) (from to : ℕ) → to ≤ length text → take (length (part_of text from to)) (drop from text) ≡ part_of text from to
 word_of_part text from to h = ap (λ n. take n (drop from text)) (part_length text from to h)
 
--- what is left behind a word and the byte after it
-pub left_behind : (text : List ℕ) (from to end : ℕ) → from + end < to → drop (end + 1) (part_of text from to) ≡ part_of text (from + end + 1) to
-left_behind text from to end h =
-    part_left text from to (end + 1) (omega arith) ∙ ap (λ n. part_of text n to) (let e : from + (end + 1) ≡ from + end + 1 = omega arith in e)
-
-pub left_at_end : (text : List ℕ) (from to end : ℕ) → to ≤ length text → to ≤ from + end → drop (end + 1) (part_of text from to) ≡ part_of text to to
-left_at_end text from to end within h =
-    drop_all (end + 1) (part_of text from to) (omega (arith, part_length text from to within))
-    ∙ ap (λ n. take n (drop to text)) (let e : 0 ≡ to - to = omega arith in e)
-
 -- bytes have at most one word more than bytes
 pub words_in_le : (bytes : List ℕ) → length (words_in bytes) ≤ length bytes + 1
 unfolding words_in
@@ -61,10 +51,10 @@ words_in_le bytes =
     omega (arith, filter_le is_word (slice_split is_separator bytes), length-slice_split is_separator bytes, count_by-le-length is_separator bytes)
 
 -- the first word of some bytes, which ends at their end or at a separator
-pub word_to_end : (bytes rest : List ℕ) (start : ℕ) → rest ≡ drop start bytes → words_in bytes ≡ rest ∷ words_in [] → words_in bytes ≡ part_of bytes start (length bytes) ∷ words_in (drop (length bytes + 1) bytes)
+pub word_to_end : (bytes rest : List ℕ) (start : ℕ) → rest ≡ drop start bytes → words_in bytes ≡ rest ∷ words_in [] → words_in bytes ≡ part_of bytes start (length bytes) ∷ words_in (drop (length bytes) bytes)
 word_to_end bytes rest start e h =
     h ∙ ap (λ (word : List ℕ). word ∷ words_in []) (e ∙ sym (take_rest bytes start))
-    ∙ ap (λ (left : List ℕ). part_of bytes start (length bytes) ∷ words_in left) (sym (drop_all (length bytes + 1) bytes (omega arith)))
+    ∙ ap (λ (left : List ℕ). part_of bytes start (length bytes) ∷ words_in left) (sym (drop_all (length bytes) bytes (omega arith)))
 
 pub word_to_separator : (bytes rest : List ℕ) (start n : ℕ) → rest ≡ drop start bytes → words_in bytes ≡ take n rest ∷ words_in (take (length rest - (n + 1)) (drop (n + 1) rest))
     → words_in bytes ≡ part_of bytes start (start + n) ∷ words_in (drop (start + n + 1) bytes)
@@ -139,14 +129,13 @@ pub any_pushed : (p : List ℕ → Bool) (before : Bool) (word : List ℕ) (left
 any_pushed p true word left = refl
 any_pushed p false word left = refl
 
--- the words of a part, cut at the first
-pub first_of_part : (text : List ℕ) (from to start end next : ℕ) → start ≤ end → from + end ≤ to
-    → words_in (part_of text from to) ≡ part_of (part_of text from to) start end ∷ words_in (drop (end + 1) (part_of text from to)) → drop (end + 1) (part_of text from to) ≡ part_of text next to
-    → words_in (part_of text from to) ≡ part_of text (from + start) (from + end) ∷ words_in (part_of text next to)
-first_of_part text from to start end next le within first left =
+-- the words of a part, cut behind the first
+pub first_of_part : (text : List ℕ) (from to start end next : ℕ) → start ≤ end → end ≤ next → from + next ≤ to → words_in (part_of text from to) ≡ part_of (part_of text from to) start end ∷ words_in (drop next (part_of text from to))
+    → words_in (part_of text from to) ≡ part_of text (from + start) (from + end) ∷ words_in (part_of text (from + next) to)
+first_of_part text from to start end next le behind within first =
     first
-    ∙ ap (λ (word : List ℕ). word ∷ words_in (drop (end + 1) (part_of text from to))) (part_of_part text from to start end le within)
-    ∙ ap (λ (bytes : List ℕ). part_of text (from + start) (from + end) ∷ words_in bytes) left
+    ∙ ap (λ (word : List ℕ). word ∷ words_in (drop next (part_of text from to))) (part_of_part text from to start end le (omega arith))
+    ∙ ap (λ (bytes : List ℕ). part_of text (from + start) (from + end) ∷ words_in bytes) (part_left text from to next within)
 
 without_mark_le : (bytes : List ℕ) → length (without_mark bytes) ≤ length bytes
 without_mark_le bytes =

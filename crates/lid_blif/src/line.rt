@@ -210,11 +210,7 @@ pub fn words_after<'w>(words: &Words<'w>, count: usize) -> Words<'w>
 }
 
 /// Appends copies of some words.
-pub fn push_copies(
-    alloc: Global,
-    words: &Words<'_>,
-    into: &mut Vec<Name>,
-) -> Result<(), AllocError>
+pub fn push_copies(alloc: Global, words: &Words<'_>, into: &mut Vec<Name>) -> Result<(), AllocError>
     ensures { OnOk result (into.new.items ≡ into.old.items ++ words.now) }
 {
     for at in 0..words.len() {

@@ -30,11 +30,7 @@ fn line_parts(line: &[u8]) -> LineParts<'_>
     let content = content_of(line);
     let kept = trimmed(content);
     let goes_on = ends_in_mark(kept);
-    let end = if goes_on {
-        kept.len() - 1
-    } else {
-        kept.len()
-    };
+    let end = if goes_on { kept.len() - 1 } else { kept.len() };
     LineParts {
         content,
         end,
@@ -63,17 +59,18 @@ fn find_separator(bytes: &[u8]) -> Option<usize>
     bytes.iter().position(|byte| is_separator(*byte))
 }
 
-/// Where a word begins, and where it has ended.
+/// Where a word begins, where it has ended, and where the bytes after it and its separator begin.
 #[derive(Clone, Copy)]
 struct Bounds {
     start: usize,
     end: usize,
+    next: usize,
 }
 
 /// The bounds of the first word. `None` is no word.
 fn first_word(bytes: &[u8]) -> Option<Bounds>
-    ensures words { MatchOption result (words_in bytes.now ≡ []) (λ word. words_in bytes.now ≡ part_of bytes.now word.start word.end ∷ words_in (drop (word.end + 1) bytes.now)) }
-    ensures within { IfSome result (λ word. (word.start < length bytes.now) × (word.start ≤ word.end) × (word.end ≤ length bytes.now)) }
+    ensures words { MatchOption result (words_in bytes.now ≡ []) (λ word. words_in bytes.now ≡ part_of bytes.now word.start word.end ∷ words_in (drop word.next bytes.now)) }
+    ensures within { IfSome result (λ word. (word.start ≤ word.end) × (word.end ≤ word.next) × (0 < word.next) × (word.next ≤ length bytes.now)) }
 {
     match find_word(bytes) {
         None => None,
@@ -81,10 +78,12 @@ fn first_word(bytes: &[u8]) -> Option<Bounds>
             None => Some(Bounds {
                 start,
                 end: bytes.len(),
+                next: bytes.len(),
             }),
             Some(count) => Some(Bounds {
                 start,
                 end: start + count,
+                next: start + count + 1,
             }),
         },
     }
@@ -118,15 +117,14 @@ fn push_words(
     let mut at = from;
     while let Some(bounds) = first_word(&text[at..to]) {
         let start = at + bounds.start;
-        let end = at + bounds.end;
-        let word = &text[start..end];
+        let word = &text[start..at + bounds.end];
         marked |= ends_in_mark(word);
         long |= word.len() > longest as usize;
         words.push(Word {
             start: start as u32,
             len: word.len() as u32,
         })?;
-        at = if end < to { end + 1 } else { to };
+        at += bounds.next;
     }
     Ok(Seen { marked, long })
 }

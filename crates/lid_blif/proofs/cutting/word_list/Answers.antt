@@ -51,8 +51,8 @@ returns-in-Err-clause-err c =
     elim c.in-Err.ensures.err [
       | inl memory ↦ inl memory
       | inr told ↦ inr
-        (sym fault
-        ∙ fault_first c.args.longest (number, line) later c.in-Err.fault (ap (λ (bytes : List ℕ). line_fault c.args.longest (number, bytes)) (sym here) ∙ told))
+          (sym fault
+          ∙ fault_first c.args.longest (number, line) later c.in-Err.fault (ap (λ (bytes : List ℕ). line_fault c.args.longest (number, bytes)) (sym here) ∙ told))
     ]
 
 pub loop-left-preserved : goal.loop-left-preserved
