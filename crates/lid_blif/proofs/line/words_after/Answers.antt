@@ -1,4 +1,4 @@
-use Rattle.std.proofs.Common.{ap, ◌∙◌, drop, sym}
+use Rattle.std.proofs.Common.{ap, ◌∙◌, drop}
 use Rattle.lid_blif.specs.Places.{words_at}
 use Rattle.lid_blif.proofs.Places.{words_at_back}
 use Rattle.lid_blif.proofs.line.words_after.Goals as goal

@@ -1,4 +1,4 @@
-use Rattle.std.proofs.Common.{ap, ◌∙◌, take, sym}
+use Rattle.std.proofs.Common.{ap, ◌∙◌, take}
 use Rattle.lid_blif.specs.Places.{words_at}
 use Rattle.lid_blif.proofs.Places.{words_at_front}
 use Rattle.lid_blif.proofs.line.words_before.Goals as goal
