@@ -1,10 +1,8 @@
 -- The nets of a model by the numbers of its names: where clock names are marked, the numbers of those that are not, and
 -- the places that these take.
-use Rattle.std.proofs.Common.{◌≡◌, ◌⊎◌, ℕ, zero, suc, ◌+◌, ◌<◌, Bool, true, false, ◌||◌, not, cond, List, [], ◌∷◌, ◌++◌, length, length-append, get_or, map, filter, filter_map, position, Option, Some, None, slice_get, refl, sym, ◌∙◌, ap, subst, inl, inr, append_assoc, add-zero, arith}
+use Rattle.std.proofs.Common.{◌≡◌, ℕ, suc, ◌+◌, Bool, true, false, ◌||◌, not, cond, List, [], ◌∷◌, ◌++◌, length, length-append, get_or, map, filter, position, Option, Some, None, slice_get, refl, sym, ◌∙◌, ap, subst, inl, inr, append_assoc, add-zero, arith}
 use Rattle.std.specs.List.{list_any, position_from, cons_option}
 use Rattle.std.specs.Str.{bytes_eq}
-use Rattle.std.proofs.lemmas.List.{append-nil}
-use Rattle.std.proofs.lemmas.Option.{same_Some}
 use Rattle.std.proofs.lemmas.List.Quantifiers.{position-Some}
 use Rattle.std.proofs.lemmas.Iterator.Adapters.{position_from-zero}
 use Rattle.lid_base.specs.Lists.{Among, AreOnce}
@@ -13,7 +11,7 @@ use Rattle.lid_base.proofs.Places.{get_map, get_past, item_read}
 use Rattle.lid_check_names.proofs.Lists.{is_among_append}
 use Rattle.lid_design.specs.declared.Model.{Model}
 use Rattle.lid_design.specs.Columns.{is_among}
-use Rattle.lid_design.specs.Models.{occurrences, firsts}
+use Rattle.lid_design.specs.Models.{occurrences}
 use Rattle.lid_check_table.specs.Tables.{names_in, AreNumbersOf}
 use Rattle.lid_check_table.specs.Marks.{marks_of}
 use Rattle.lid_check_table.proofs.Marking.{firsts_once}

@@ -257,6 +257,7 @@ impl<'d> Survey<'d> {
         ensures value { result ≡ length (model_nets self.now model) }
         ensures small { result < 2 ^ 63 }
     {
+        let _ = &self.uses;
         self.nets_of(model).len()
     }
 
@@ -265,8 +266,9 @@ impl<'d> Survey<'d> {
         requires { IsReached self.now model }
         ensures { option_map (λ (r : Bor (List ℕ)). r.now) result ≡ slice_get (model_nets self.now model) place }
     {
-        match self.nets_of(model).get(place) {
-            Some(number) => self.table_of(model).name_at(*number as usize),
+        let _ = &self.uses;
+        match number_in(self.nets_of(model), place) {
+            Some(number) => self.table_of(model).name_at(number as usize),
             None => None,
         }
     }
@@ -284,10 +286,26 @@ impl<'d> Survey<'d> {
         requires { IsReached self.now model }
         ensures { result ≡ position (bytes_eq name.now) (model_nets self.now model) }
     {
-        let Some(number) = self.table_of(model).number_of(name) else {
-            return None;
-        };
-        let place = self.place_by(model, number)?;
-        Some(place as usize)
+        match self.table_of(model).number_of(name) {
+            Some(number) => widen(self.place_by(model, number)),
+            None => None,
+        }
     }
+}
+
+/// A place as an index.
+fn widen(place: Option<u32>) -> Option<usize>
+    ensures { result ≡ place }
+{
+    match place {
+        Some(place) => Some(place as usize),
+        None => None,
+    }
+}
+
+/// The number at a place of a list.
+fn number_in(numbers: &[u32], place: usize) -> Option<u32>
+    ensures { result ≡ slice_get numbers.now place }
+{
+    numbers.get(place).copied()
 }

@@ -1,4 +1,4 @@
-use Rattle.std.proofs.Common.{◌≡◌, ℕ, List, filter, subst, ◌∙◌, sym, ap}
+use Rattle.std.proofs.Common.{filter, subst, ◌∙◌, sym}
 use Rattle.lid_base.proofs.Results.{if_ok}
 use Rattle.lid_check_names.specs.Names.{is_among}
 use Rattle.lid_check_table.specs.Tables.{names_in, AreNumbersOf}

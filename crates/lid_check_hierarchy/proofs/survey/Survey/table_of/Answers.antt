@@ -1,4 +1,4 @@
-use Rattle.std.proofs.Common.{◌≡◌, List, Some, slice_get, ◌∙◌, sym, ap, length}
+use Rattle.std.proofs.Common.{List, slice_get, ◌∙◌, sym, ap, length}
 use Rattle.lid_base.proofs.Places.{item_read}
 use Rattle.lid_design.specs.declared.Design.{Design}
 use Rattle.lid_design.specs.declared.Model.{Model}
