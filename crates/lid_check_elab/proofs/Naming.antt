@@ -56,9 +56,9 @@ mapped_next {A} {B} f ys new xs i x y total pushed stands left before =
     ∙ before
 
 -- numbers that were split where those of the first item end
-pub record AreSplit (names own rest : List (List ℕ)) (front back : List ℕ) : Type 0 where
-  pub front : AreNumbersOf names own front
-  pub back : AreNumbersOf names rest back
+pub record AreSplit (names own rest : List (List ℕ)) (first last : List ℕ) : Type 0 where
+  pub front : AreNumbersOf names own first
+  pub back : AreNumbersOf names rest last
 
 pub split_next : {A : Type 0} (f : A → List (List ℕ)) (names : List (List ℕ)) (xs : List A) (i : ℕ) (x : A) (numbers front back : List ℕ) (n : ℕ) → x ≡ get_or xs i x → i < length xs → AreNumbersOf names (flat_map f (drop i xs)) numbers → n ≡ length (f x) → front ≡ take n numbers → back ≡ drop n numbers → AreSplit names (f x) (flat_map f (drop (i + 1) xs)) front back
 split_next f names xs i x numbers front back n is below are long first last =
