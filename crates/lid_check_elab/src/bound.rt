@@ -22,7 +22,7 @@ pub fn actuals_of(
     requires { IsReached judged.now model }
     ensures { IfOk result (λ actuals. actuals ≡ map (places_in_inst judged.now model) (insts_of judged.now model)) }
 {
-    let mut left = crate::stub::table_of(judged, model).actuals();
+    let mut left = judged.table_of(model).actuals();
     let insts = insts_at(judged, model);
     let mut all = Vec::with_capacity(alloc, insts.len())?;
     for i in 0..insts.len() {

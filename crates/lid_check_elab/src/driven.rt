@@ -58,7 +58,7 @@ pub fn driven_of(
     ensures { IfOk result (ShowsDrivers judged.now model (model_locals judged.now model)) }
 {
     let _ = judged.design();
-    let table = crate::stub::table_of(judged, model);
+    let table = judged.table_of(model);
     let mut driven = nothing_driven(alloc, table.inputs().len(), table.outs().len())?;
     push_inputs(&mut driven, judged, model, table)?;
     push_cells(alloc, &mut driven, judged, model, table)?;

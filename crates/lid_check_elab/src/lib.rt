@@ -12,7 +12,6 @@ mod places;
 mod placing;
 mod reads;
 mod sizes;
-mod stub;
 mod template;
 
 pub use covers::cover_at;

@@ -18,8 +18,8 @@ pub fn picks_of(
     requires few { length numbers.now ≤ 1048576 }
     ensures { IfOk result (ArePlaces judged.now model numbers.now) }
 {
-    let places = places_by(alloc, crate::stub::table_of(judged, model).len(), numbers)?;
-    pick_all(alloc, places.as_slice(), crate::stub::nets_of(judged, model))
+    let places = places_by(alloc, judged.table_of(model).len(), numbers)?;
+    pick_all(alloc, places.as_slice(), judged.nets_of(model))
 }
 
 /// For each number below a count, a place at which it stands in a list; 0 where it does not.

@@ -61,7 +61,7 @@ pub fn place_at(judged: &Judged<'_>, model: u32, number: u32) -> u32
     ensures { (name : List ℕ) → name_at judged.now model number ≡ Some name → result ≡ net_place judged.now model name }
 {
     let _ = judged.design();
-    match crate::stub::place_at(judged, model, number) {
+    match judged.place_at(model, number) {
         Some(place) => place,
         None => count_nets(judged, model),
     }
