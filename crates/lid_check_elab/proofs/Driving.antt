@@ -14,10 +14,9 @@ use Rattle.lid_design.specs.Columns.{is_clock, data_inputs}
 use Rattle.lid_design.specs.Models.{is_clock_of, firsts, insts_of, number_named, instance_number, IsReached, data_inputs_of}
 use Rattle.lid_check_drivers.specs.Locals.{Local, NetLocal, inputs_from, local_connection, local_of, output_driver, outputs_of, locals, model_locals}
 use Rattle.lid_check_elab.specs.Templates.{shown_local, name_at}
-use Rattle.lid_check_elab.specs.Parts.{driven_net, numbered_local, PushesNet, Grows, ShowsDrivers, data_of, output_sets}
+use Rattle.lid_check_elab.specs.Parts.{driven_net, numbered_local, Grows, ShowsDrivers, data_of, output_sets}
 use Rattle.lid_check_drivers.specs.Judged.{IsJudged}
 use Rattle.lid_check_elab.specs.declared.driven.Driven.{Driven}
-use Rattle.lid_check_elab.specs.declared.template.LocalDriver.{LocalDriver}
 use Rattle.lid_check_drivers.proofs.Clocking.{named_model}
 use Rattle.lid_check_elab.proofs.Counting.{model_below}
 use Rattle.lid_base.proofs.Options.{map_some}
@@ -92,9 +91,6 @@ pub model_here : (d : Design) → IsJudged d → (k : ℕ) → IsReached d k →
 model_here d judged k reached = item_at d.models k (model_below d judged k reached)
 
 module _ (d : Design) (k : ℕ) where
-  pub left_start : (now : Driven) (whole : List NetLocal) → Left d k now whole now whole
-  left_start now whole = record { nets = refl; locals = refl }
-
   left_next : (ps rest : List NetLocal) (now new old : Driven) (whole : List NetLocal) → Grows d k ps now new → Left d k now (ps ++ rest) old whole → Left d k new rest old whole
   left_next ps rest now new old whole grows left = record {
     nets = moved driven_net (map (name_at d k) now.nets.items) (map (name_at d k) new.nets.items) ps rest _ grows.nets left.nets;
@@ -106,20 +102,6 @@ module _ (d : Design) (k : ℕ) where
   left_item {A} f h ps xs i x cons below is now new old whole grows left =
       let rest : f (drop i xs) ≡ ps ++ h (drop (i + 1) xs) = ap f (drop_item xs i x below is) ∙ cons (drop (i + 1) xs) in
       left_next ps (h (drop (i + 1) xs)) now new old whole grows (subst (λ (qs : List NetLocal). Left d k now qs old whole) rest left)
-
-  -- nothing is left
-  pub left_done : (rest : List NetLocal) (now old : Driven) (whole : List NetLocal) → rest ≡ [] → Left d k now rest old whole → Grows d k whole old now
-  left_done rest now old whole none left = record {
-    nets = sym (append-nil (map (name_at d k) now.nets.items)) ∙ ap (λ (ps : List NetLocal). map (name_at d k) now.nets.items ++ map driven_net ps) (sym none) ∙ left.nets;
-    locals = sym (append-nil (map (shown_local d) now.locals.items)) ∙ ap (λ (ps : List NetLocal). map (shown_local d) now.locals.items ++ map (numbered_local d k) ps) (sym none) ∙ left.locals;
-  }
-
-  -- one net was pushed, by its number
-  pub grows_one : (p : NetLocal) (old new : Driven) (net : ℕ) (local : LocalDriver) → name_at d k net ≡ Some p.0 → shown_local d local ≡ numbered_local d k p → PushesNet net local old new → Grows d k (p ∷ []) old new
-  grows_one p old new net local named shown pushed = record {
-    nets = ap (map (name_at d k)) pushed.nets ∙ map-append (name_at d k) old.nets.items (net ∷ []) ∙ ap (λ (o : Option (List ℕ)). map (name_at d k) old.nets.items ++ o ∷ []) named;
-    locals = ap (map (shown_local d)) pushed.locals ∙ map-append (shown_local d) old.locals.items (local ∷ []) ∙ ap (λ (l : Local ℕ). map (shown_local d) old.locals.items ++ l ∷ []) shown;
-  }
 
   pub grows_none : (now : Driven) → Grows d k [] now now
   grows_none now = record { nets = sym (append-nil (map (name_at d k) now.nets.items)); locals = sym (append-nil (map (shown_local d) now.locals.items)) }
