@@ -101,8 +101,8 @@ fn formals_of<'d>(alloc: Global, binds: &'d [Bind]) -> Result<NameSet<'d>, Alloc
     NameSet::collect(alloc, formals.as_slice())
 }
 
-/// The net around an instance that a formal is bound to; the place of the empty name where it is not
-/// bound.
+/// The place of the net around an instance that a formal is bound to; that of the empty name where it
+/// is not bound.
 fn place_for(
     judged: &Judged<'_>,
     model: u32,
