@@ -4,4 +4,6 @@ pub mod Naming
 pub mod Faults
 pub mod Cubes
 pub mod Texts
-pub mod Spans
+pub mod Sizes
+pub mod Places
+pub mod Cuts

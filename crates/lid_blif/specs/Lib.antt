@@ -3,3 +3,4 @@ pub mod Faults
 pub mod Names
 pub mod Designs
 pub mod Joins
+pub mod Places

@@ -8,7 +8,7 @@ ghost use Rattle.lid_blif.specs.Faults.{ends_in_zero};
 ghost use Rattle.lid_blif.specs.Designs.{IsNarrow, mask_of, is_cared_for, is_character_one, cube_of, cover_of, names_cell, kind_of, control_of, init_of, latch_cell, bind_of, inst_of, cell_before};
 
 use crate::keyword::Keyword;
-use crate::line::{TextLine, Word, copy_words, last_word, word_at, words_after};
+use crate::line::{TextLine, Words, copy_words, last_word, word_at, words_after, words_before};
 use crate::shapes::{actual, formal, has_init, has_type};
 use crate::words::{is_zero_row, leading_rows};
 use lid_base::{Items, Name, copy_name, is_same};
@@ -37,7 +37,7 @@ fn cube_of(inputs: usize, row: &TextLine<'_, '_>) -> Cube
     requires { inputs ≤ 64 }
     ensures { result ≡ cube_of inputs row.now }
 {
-    let characters = word_at(row.words(), 0);
+    let characters = word_at(&row.words(), 0);
     if inputs < characters.len() {
         cube_from(&characters[..inputs])
     } else {
@@ -73,7 +73,7 @@ fn has_zero(rows: &[TextLine<'_, '_>]) -> bool
 
 fn cover_of(
     alloc: Global,
-    words: &[Word<'_>],
+    words: &Words<'_>,
     rows: &[TextLine<'_, '_>],
 ) -> Result<Cover, AllocError>
     requires { inputs_of words.now ≤ 64 }
@@ -88,31 +88,27 @@ fn cover_of(
     })
 }
 
-fn inputs_of<'w, 't>(words: &'w [Word<'t>]) -> &'w [Word<'t>]
-    ensures { result.now ≡ take (inputs_of words.now) (drop 1 words.now) }
+fn inputs_of<'w>(words: &Words<'w>) -> Words<'w>
+    ensures { result ≡ take (inputs_of words.now) (drop 1 words.now) }
 {
-    if words.len() < 2 {
-        &[]
-    } else {
-        &words[1..words.len() - 1]
-    }
+    words_before(&words_after(words, 1), words.len().saturating_sub(2))
 }
 
 fn names_cell(
     alloc: Global,
-    words: &[Word<'_>],
+    words: &Words<'_>,
     rows: &[TextLine<'_, '_>],
 ) -> Result<Cell, AllocError>
     requires { inputs_of words.now ≤ 64 }
     ensures { IfOk result (λ cell. cell ≡ names_cell words.now rows.now) }
 {
-    let inputs = copy_words(alloc, inputs_of(words))?;
+    let inputs = copy_words(alloc, &inputs_of(words))?;
     let out = copy_name(alloc, last_word(words))?;
     let cover = cover_of(alloc, words, rows)?;
     Ok(Cell::Names { inputs, out, cover })
 }
 
-fn kind_of(words: &[Word<'_>]) -> LatchKind
+fn kind_of(words: &Words<'_>) -> LatchKind
     ensures { result ≡ kind_of words.now }
 {
     if !has_type(words) {
@@ -124,7 +120,7 @@ fn kind_of(words: &[Word<'_>]) -> LatchKind
     }
 }
 
-fn control_of(alloc: Global, words: &[Word<'_>]) -> Result<Option<Name>, AllocError>
+fn control_of(alloc: Global, words: &Words<'_>) -> Result<Option<Name>, AllocError>
     ensures { IfOk result (λ control. control ≡ control_of words.now) }
 {
     let name = word_at(words, 4);
@@ -135,7 +131,7 @@ fn control_of(alloc: Global, words: &[Word<'_>]) -> Result<Option<Name>, AllocEr
     Ok(Some(name))
 }
 
-fn init_of(words: &[Word<'_>]) -> Init
+fn init_of(words: &Words<'_>) -> Init
     ensures { result ≡ init_of words.now }
 {
     let init: &[u8] = if has_init(words) {
@@ -151,7 +147,7 @@ fn init_of(words: &[Word<'_>]) -> Init
     }
 }
 
-fn latch_cell(alloc: Global, words: &[Word<'_>]) -> Result<Cell, AllocError>
+fn latch_cell(alloc: Global, words: &Words<'_>) -> Result<Cell, AllocError>
     ensures { IfOk result (λ cell. cell ≡ latch_cell words.now) }
 {
     let input = copy_name(alloc, word_at(words, 1))?;
@@ -180,11 +176,11 @@ pub fn push_cell(
     let words = line.words();
     match line.keyword() {
         Keyword::Names => {
-            let cell = names_cell(alloc, words, leading_rows(later))?;
+            let cell = names_cell(alloc, &words, leading_rows(later))?;
             cells.push(cell)?;
         }
         Keyword::Latch => {
-            let cell = latch_cell(alloc, words)?;
+            let cell = latch_cell(alloc, &words)?;
             cells.push(cell)?;
         }
         _ => {}
@@ -200,12 +196,12 @@ fn bind_of(alloc: Global, word: &[u8]) -> Result<Bind, AllocError>
     Ok(Bind { formal, actual })
 }
 
-fn binds_of(alloc: Global, words: &[Word<'_>]) -> Result<Items<Bind>, AllocError>
+fn binds_of(alloc: Global, words: &Words<'_>) -> Result<Items<Bind>, AllocError>
     ensures { IfOk result (λ binds. binds ≡ map bind_of words.now) }
 {
     let mut binds = Vec::with_capacity(alloc, words.len())?;
-    for word in words {
-        let bind = bind_of(alloc, word.as_slice())?;
+    for at in 0..words.len() {
+        let bind = bind_of(alloc, word_at(words, at))?;
         binds.push(bind)?;
     }
     Ok(Items::from_vec(binds))
@@ -216,7 +212,7 @@ pub fn inst_of(alloc: Global, line: &TextLine<'_, '_>) -> Result<Inst, AllocErro
     ensures { IfOk result (λ inst. inst ≡ inst_of line.now) }
 {
     let words = line.words();
-    let model = copy_name(alloc, word_at(words, 1))?;
-    let binds = binds_of(alloc, words_after(words, 2))?;
+    let model = copy_name(alloc, word_at(&words, 1))?;
+    let binds = binds_of(alloc, &words_after(&words, 2))?;
     Ok(Inst { model, binds })
 }

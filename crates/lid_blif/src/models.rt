@@ -22,7 +22,7 @@ fn names_of(
     let mut names = Vec::new(alloc);
     for line in body {
         if is_line(wanted, line) {
-            push_copies(alloc, words_after(line.words(), 1), &mut names)?;
+            push_copies(alloc, &words_after(&line.words(), 1), &mut names)?;
         }
     }
     names.shrink_to_fit();
@@ -127,7 +127,7 @@ fn models_of(alloc: Global, lines: &[TextLine<'_, '_>]) -> Result<Items<Model>, 
     for (at, line) in lines.iter().enumerate() {
         if is_line(Keyword::Model, line) {
             let body = leading_inner(&lines[at + 1..]);
-            let model = model_of(alloc, word_at(line.words(), 1), body)?;
+            let model = model_of(alloc, word_at(&line.words(), 1), body)?;
             models.push(model)?;
         }
     }

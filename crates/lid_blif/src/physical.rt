@@ -1,11 +1,12 @@
 //! A physical line, gone over once: its words, and what is at fault in it.
 
-ghost use Rattle.std.specs.Prelude.{◌≡◌, ◌⊎◌, ◌++◌, IfOk, OnOk, IfErr, Some, None};
-ghost use Rattle.lid_base.specs.Lines.{content_of, goes_on, words_in, words_of, line_fault};
+ghost use Rattle.std.specs.Prelude.{◌≡◌, ◌+◌, ◌<◌, ◌≤◌, ◌⊎◌, ◌∷◌, [], ◌++◌, length, not, take, drop, position, IfOk, OnOk, IfErr, IfSome, MatchOption, Some, None};
+ghost use Rattle.lid_base.specs.Lines.{is_separator, content_of, goes_on, words_in, words_of, line_fault};
 ghost use Rattle.lid_blif.specs.Joins.{has_marked_word, has_longer_word};
+ghost use Rattle.lid_blif.specs.Places.{part_of, words_at};
 
 use crate::line::Word;
-use lid_base::{TextFault, content_of, ends_in_mark, has_stray_byte, next_word, trimmed};
+use lid_base::{TextFault, content_of, ends_in_mark, has_stray_byte, trimmed};
 use std::alloc::AllocError;
 
 /// The parts of a physical line.
@@ -13,8 +14,8 @@ use std::alloc::AllocError;
 struct LineParts<'t> {
     /// The line without its comment.
     content: &'t [u8],
-    /// What has its words: the content without a `\` that ends it.
-    words: &'t [u8],
+    /// How far the words go: up to separators at the end of the content, or a `\` that ends it.
+    end: usize,
     /// The next physical line belongs to the same logical line.
     goes_on: bool,
 }
@@ -22,21 +23,69 @@ struct LineParts<'t> {
 #[tactic(auto, unfolding(lid_base::specs::Lines::words_of, lid_base::specs::Lines::goes_on))]
 fn line_parts(line: &[u8]) -> LineParts<'_>
     ensures content { result.content.now ≡ content_of line.now }
-    ensures words { words_in result.words.now ≡ words_of line.now }
+    ensures words { words_in (take result.end line.now) ≡ words_of line.now }
+    ensures end { result.end ≤ length line.now }
     ensures goes_on { result.goes_on ≡ goes_on line.now }
 {
     let content = content_of(line);
     let kept = trimmed(content);
     let goes_on = ends_in_mark(kept);
-    let words = if goes_on {
-        &kept[..kept.len() - 1]
-    } else {
-        kept
-    };
+    let end = if goes_on { kept.len() - 1 } else { kept.len() };
     LineParts {
         content,
-        words,
+        end,
         goes_on,
+    }
+}
+
+/// Whether a byte separates words: a blank, a tab or a carriage return.
+fn is_separator(byte: u8) -> bool
+    ensures { result ≡ is_separator byte }
+{
+    byte == b' ' || byte == b'\t' || byte == b'\r'
+}
+
+/// Where the first byte stands that is no separator.
+fn find_word(bytes: &[u8]) -> Option<usize>
+    ensures { result ≡ position (λ b. not (is_separator b)) bytes.now }
+{
+    bytes.iter().position(|byte| !is_separator(*byte))
+}
+
+/// Where the first separator stands.
+fn find_separator(bytes: &[u8]) -> Option<usize>
+    ensures { result ≡ position is_separator bytes.now }
+{
+    bytes.iter().position(|byte| is_separator(*byte))
+}
+
+/// Where a word begins, where it has ended, and where the bytes after it and its separator begin.
+#[derive(Clone, Copy)]
+struct Bounds {
+    start: usize,
+    end: usize,
+    next: usize,
+}
+
+/// The bounds of the first word. `None` is no word.
+fn first_word(bytes: &[u8]) -> Option<Bounds>
+    ensures words { MatchOption result (words_in bytes.now ≡ []) (λ word. words_in bytes.now ≡ part_of bytes.now word.start word.end ∷ words_in (drop word.next bytes.now)) }
+    ensures within { IfSome result (λ word. (word.start ≤ word.end) × (word.end ≤ word.next) × (0 < word.next) × (word.next ≤ length bytes.now)) }
+{
+    match find_word(bytes) {
+        None => None,
+        Some(start) => match find_separator(&bytes[start..]) {
+            None => Some(Bounds {
+                start,
+                end: bytes.len(),
+                next: bytes.len(),
+            }),
+            Some(count) => Some(Bounds {
+                start,
+                end: start + count,
+                next: start + count + 1,
+            }),
+        },
     }
 }
 
@@ -49,47 +98,60 @@ struct Seen {
     long: bool,
 }
 
-/// Appends the words between separators.
-fn push_words<'t>(
-    bytes: &'t [u8],
+/// Appends the words that stand in a text from one place up to another.
+fn push_words(
+    text: &[u8],
+    from: usize,
+    to: usize,
     longest: u32,
-    words: &mut Vec<Word<'t>>,
+    words: &mut Vec<Word>,
 ) -> Result<Seen, AllocError>
-    ensures words { OnOk result (words.new.items ≡ words.old.items ++ words_in bytes.now) }
-    ensures marked { IfOk result (λ seen. seen.marked ≡ has_marked_word (words_in bytes.now)) }
-    ensures long { IfOk result (λ seen. seen.long ≡ has_longer_word longest (words_in bytes.now)) }
+    requires within { (from ≤ to) × (to ≤ length text.now) }
+    requires few { length text.now ≤ 67108864 }
+    ensures words { OnOk result (words_at text.now words.new.items ≡ words_at text.now words.old.items ++ words_in (part_of text.now from to)) }
+    ensures marked { IfOk result (λ seen. seen.marked ≡ has_marked_word (words_in (part_of text.now from to))) }
+    ensures long { IfOk result (λ seen. seen.long ≡ has_longer_word longest (words_in (part_of text.now from to))) }
 {
     let mut marked = false;
     let mut long = false;
-    let mut rest = bytes;
-    while let Some((word, after)) = next_word(rest) {
+    let mut at = from;
+    while let Some(bounds) = first_word(&text[at..to]) {
+        let start = at + bounds.start;
+        let word = &text[start..at + bounds.end];
         marked |= ends_in_mark(word);
         long |= word.len() > longest as usize;
-        words.push(Word::new(word))?;
-        rest = after;
+        words.push(Word {
+            start: start as u32,
+            len: word.len() as u32,
+        })?;
+        at += bounds.next;
     }
     Ok(Seen { marked, long })
 }
 
-/// Appends the words of a physical line, and tells whether the next one belongs to the same
-/// logical line.
+/// Appends the words of the physical line that stands in a text from one place up to another, and
+/// tells whether the next one belongs to the same logical line.
 ///
 /// # Errors
 /// What is at fault in the line; `Memory` may come at any line.
 #[tactic(auto, unfolding(lid_base::specs::Lines::has_bad_byte, lid_base::specs::Lines::has_long_word))]
-pub fn take_words<'t>(
+pub fn take_words(
     number: u32,
-    line: &'t [u8],
+    text: &[u8],
+    from: usize,
+    to: usize,
     longest: u32,
-    words: &mut Vec<Word<'t>>,
+    words: &mut Vec<Word>,
 ) -> Result<bool, TextFault>
-    ensures words { OnOk result (words.new.items ≡ words.old.items ++ words_of line.now) }
-    ensures goes_on { IfOk result (λ more. more ≡ goes_on line.now) }
-    ensures ok { OnOk result (line_fault longest (number, line.now) ≡ None) }
-    ensures err { IfErr result (λ e. (e ≡ TextFault.Memory) ⊎ (line_fault longest (number, line.now) ≡ Some e)) }
+    requires within { (from ≤ to) × (to ≤ length text.now) }
+    requires few { length text.now ≤ 67108864 }
+    ensures words { OnOk result (words_at text.now words.new.items ≡ words_at text.now words.old.items ++ words_of (part_of text.now from to)) }
+    ensures goes_on { IfOk result (λ more. more ≡ goes_on (part_of text.now from to)) }
+    ensures ok { OnOk result (line_fault longest (number, part_of text.now from to) ≡ None) }
+    ensures err { IfErr result (λ e. (e ≡ TextFault.Memory) ⊎ (line_fault longest (number, part_of text.now from to) ≡ Some e)) }
 {
-    let parts = line_parts(line);
-    let Ok(seen) = push_words(parts.words, longest, words) else {
+    let parts = line_parts(&text[from..to]);
+    let Ok(seen) = push_words(text, from, from + parts.end, longest, words) else {
         return Err(TextFault::Memory);
     };
     let bad = has_stray_byte(parts.content) || seen.marked;

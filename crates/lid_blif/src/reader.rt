@@ -1,15 +1,15 @@
 //! From a text to a design.
 
-ghost use Rattle.std.specs.Prelude.{◌≡◌, ◌≤◌, ◌⊎◌, length, IfOk, IfErr, OnErr, Some, None};
+ghost use Rattle.std.specs.Prelude.{◌≡◌, ◌<◌, ◌≤◌, ◌⊎◌, length, IfOk, IfErr, OnErr, Some, None};
 ghost use Rattle.lid_base.specs.Lines.{logical_lines};
 ghost use Rattle.lid_blif.specs.Faults.{blif_fault, lines_fault};
 ghost use Rattle.lid_blif.specs.Designs.{design_of};
-ghost use Rattle.lid_blif.specs.Joins.{lines_cut};
+ghost use Rattle.lid_blif.specs.Joins.{lines_cut, words_counted};
 ghost use Rattle.lid_design.specs.WellFormed.{IsWellFormed};
 
-use crate::cutting::{Span, WordList, lines_cut, word_list};
+use crate::cutting::{LineSize, WordList, lines_cut, word_list};
 use crate::fault::BlifFault;
-use crate::line::{TextLine, Word};
+use crate::line::{TextLine, TextWords};
 use crate::models::design_of;
 use crate::scan::scan;
 use lid_base::{Items, TextFault, Which};
@@ -46,27 +46,31 @@ fn design_from(alloc: Global, lines: &[TextLine<'_, '_>]) -> Result<Design, Blif
     }
 }
 
-/// The lines of a list. Its spans go before the design is made.
+/// The lines of a list. Its sizes go before the design is made.
 fn lines_from<'w, 't>(
     alloc: Global,
-    words: &'w [Word<'t>],
-    spans: Vec<Span>,
+    words: &'w TextWords<'t>,
+    sizes: Vec<LineSize>,
 ) -> Result<Items<TextLine<'w, 't>>, BlifFault>
-    ensures ok { IfOk result (λ lines. lines ≡ lines_cut spans.items words.now) }
+    requires counted { words_counted sizes.items ≤ length words.now }
+    requires few { length words.now < 4294967296 }
+    ensures ok { IfOk result (λ lines. lines ≡ lines_cut sizes.items words.now) }
     ensures err { IfErr result (λ e. e ≡ BlifFault.Memory) }
 {
-    match lines_cut(alloc, words, spans.as_slice()) {
+    match lines_cut(alloc, words, sizes.as_slice()) {
         Ok(lines) => Ok(lines),
         Err(_) => Err(BlifFault::Memory),
     }
 }
 
 fn design_of_list(alloc: Global, list: WordList<'_>) -> Result<Design, BlifFault>
-    ensures ok { IfOk result (λ d. let ls = lines_cut list.entry.spans.items list.entry.words.items in (lines_fault ls ≡ None) × (d ≡ design_of ls)) }
-    ensures err { IfErr result (λ e. (e ≡ BlifFault.Memory) ⊎ (lines_fault (lines_cut list.entry.spans.items list.entry.words.items) ≡ Some e)) }
+    requires counted { words_counted list.sizes.items ≤ length list.words }
+    requires few { length list.words < 4294967296 }
+    ensures ok { IfOk result (λ d. let ls = lines_cut list.entry.sizes.items list.entry.words in (lines_fault ls ≡ None) × (d ≡ design_of ls)) }
+    ensures err { IfErr result (λ e. (e ≡ BlifFault.Memory) ⊎ (lines_fault (lines_cut list.entry.sizes.items list.entry.words) ≡ Some e)) }
 {
-    let WordList { words, spans } = list;
-    match lines_from(alloc, words.as_slice(), spans) {
+    let WordList { words, sizes } = list;
+    match lines_from(alloc, &words, sizes) {
         Ok(lines) => design_from(alloc, lines.as_slice()),
         Err(fault) => Err(fault),
     }

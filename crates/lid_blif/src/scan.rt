@@ -41,7 +41,7 @@ fn model_fault(
     let models = context.models + 1;
     if words.len() != 2 {
         Some(BlifFault::Arity { line })
-    } else if is_known(names, word_at(words, 1)) {
+    } else if is_known(names, word_at(&words, 1)) {
         Some(BlifFault::DuplicateModel { line })
     } else if models > MOST_MODELS {
         Some(BlifFault::Limit {
@@ -78,9 +78,9 @@ fn latch_fault(context: &Context, latch: &TextLine<'_, '_>) -> Option<BlifFault>
         Some(BlifFault::NoModel { line })
     } else if words.len() < 3 || words.len() > 6 {
         Some(BlifFault::Arity { line })
-    } else if has_type(words) && !is_latch_type(word_at(words, 3)) {
+    } else if has_type(&words) && !is_latch_type(word_at(&words, 3)) {
         Some(BlifFault::LatchType { line })
-    } else if has_init(words) && !is_latch_init(last_word(words)) {
+    } else if has_init(&words) && !is_latch_init(last_word(&words)) {
         Some(BlifFault::LatchInit { line })
     } else {
         None
@@ -96,7 +96,7 @@ fn subckt_fault(context: &Context, inst: &TextLine<'_, '_>) -> Option<BlifFault>
         Some(BlifFault::NoModel { line })
     } else if words.len() < 2 {
         Some(BlifFault::Arity { line })
-    } else if !are_bindings(words_after(words, 2)) {
+    } else if !are_bindings(&words_after(&words, 2)) {
         Some(BlifFault::BindShape { line })
     } else {
         None
@@ -123,7 +123,7 @@ fn row_fault(context: &Context, row: &TextLine<'_, '_>) -> Option<BlifFault>
         Some(BlifFault::NoModel { line })
     } else if !context.covered {
         Some(BlifFault::RowOutside { line })
-    } else if !is_row_of(context.inputs, row.words()) {
+    } else if !is_row_of(context.inputs, &row.words()) {
         Some(BlifFault::RowShape { line })
     } else if is_mixed(context, row) {
         Some(BlifFault::MixedRows { line })
@@ -167,7 +167,7 @@ fn remember<'a>(line: &'a TextLine<'_, '_>, names: &mut HashSet<&'a [u8]>) -> Re
     ensures { OnOk result ((before : List Line) → HoldsNames names.old (model_names before) → HoldsNames names.new (model_names (line.now ∷ before))) }
 {
     if is_line(Keyword::Model, line) {
-        names.insert(word_at(line.words(), 1))?;
+        names.insert(word_at(&line.words(), 1))?;
     }
     Ok(())
 }

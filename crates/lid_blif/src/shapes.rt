@@ -4,7 +4,7 @@ ghost use Rattle.std.specs.Prelude.{◌≡◌, ◌||◌};
 ghost use Rattle.std.specs.List.{list_all, list_any, position, before_first, after_first};
 ghost use Rattle.lid_blif.specs.Words.{is_input_character, is_row_of, is_zero, is_one, is_latch_type, is_latch_init, has_type, has_init, is_equals, is_binding};
 
-use crate::line::{Word, last_word, word_at};
+use crate::line::{Words, last_word, word_at};
 use lid_base::is_same;
 
 fn is_input_character(character: u8) -> bool
@@ -31,7 +31,7 @@ fn is_output(word: &[u8]) -> bool
 }
 
 /// Whether the words are a row of a cover with so many inputs.
-pub fn is_row_of(inputs: usize, words: &[Word<'_>]) -> bool
+pub fn is_row_of(inputs: usize, words: &Words<'_>) -> bool
     ensures { result ≡ is_row_of inputs words.now }
 {
     if !is_output(last_word(words)) {
@@ -59,14 +59,14 @@ pub fn is_latch_init(word: &[u8]) -> bool
 }
 
 /// Whether the words of a latch have a type and a control.
-pub fn has_type(words: &[Word<'_>]) -> bool
+pub fn has_type(words: &Words<'_>) -> bool
     ensures { result ≡ has_type words.now }
 {
     words.len() >= 5
 }
 
 /// Whether the words of a latch have an initial value.
-pub fn has_init(words: &[Word<'_>]) -> bool
+pub fn has_init(words: &Words<'_>) -> bool
     ensures { result ≡ has_init words.now }
 {
     words.len() == 4 || words.len() == 6
@@ -111,11 +111,11 @@ fn is_binding(word: &[u8]) -> bool
 }
 
 /// Whether all the words are bindings.
-pub fn are_bindings(words: &[Word<'_>]) -> bool
+pub fn are_bindings(words: &Words<'_>) -> bool
     ensures { result ≡ list_all is_binding words.now }
 {
-    for word in words {
-        if !is_binding(word.as_slice()) {
+    for at in 0..words.len() {
+        if !is_binding(word_at(words, at)) {
             return false;
         }
     }

@@ -63,14 +63,14 @@ pub fn is_line(wanted: Keyword, line: &TextLine<'_, '_>) -> bool
 pub fn is_zero_row(row: &TextLine<'_, '_>) -> bool
     ensures { result ≡ ends_in_zero row.now }
 {
-    is_same(last_word(row.words()), b"0")
+    is_same(last_word(&row.words()), b"0")
 }
 
 /// Whether a row has the output 1.
 pub fn is_one_row(row: &TextLine<'_, '_>) -> bool
     ensures { result ≡ ends_in_one row.now }
 {
-    is_same(last_word(row.words()), b"1")
+    is_same(last_word(&row.words()), b"1")
 }
 
 /// The rows that some lines begin with.

@@ -1,14 +1,17 @@
-ghost use Rattle.std.specs.Prelude.{◌≡◌, ◌<◌, ◌^◌, ℕ, List, length, position, option_map, slice_get};
+ghost use Rattle.std.specs.Prelude.{◌≡◌, ◌<◌, ◌^◌, ℕ, List, length, Some, position, option_map, slice_get};
 ghost use denote.Ref.{Bor};
 ghost use Rattle.std.specs.Str.{bytes_eq};
 ghost use Rattle.lid_design.specs.Models.{IsReached, instance_number, is_clock_of, data_inputs_of};
 ghost use Rattle.lid_design.specs.Elaboration.{model_nets};
+ghost use Rattle.lid_design.specs.declared.Model.{Model};
+ghost use Rattle.lid_check_table.specs.Tables.{names_in, AreNumbersOf};
 ghost use Rattle.lid_check_hierarchy.specs.Surveys.{IsModelOrder};
 ghost use Rattle.lid_check_names.specs.Names.{texts};
 ghost use Rattle.lid_check_rules.specs.Acceptance.{ModelsPass};
 ghost use Rattle.lid_check_drivers.specs.Judged.{IsJudged};
 
 use lid_check_hierarchy::Survey;
+use lid_check_table::Table;
 use lid_design::Design;
 use std::marker::Model;
 
@@ -77,6 +80,31 @@ impl<'d> Judged<'d> {
         ensures { result ≡ is_clock_of self.now model name.now }
     {
         self.survey.is_clock(model, name)
+    }
+
+    /// The names of a reached model by numbers.
+    pub fn table_of(&self, model: u32) -> &Table<'d>
+        requires { IsReached self.now model }
+        ensures { slice_get self.now.models model ≡ Some result.now }
+    {
+        self.survey.table_of(model)
+    }
+
+    /// The numbers of the nets of a reached model, in order.
+    pub fn nets_of(&self, model: u32) -> &[u32]
+        requires { IsReached self.now model }
+        ensures { (m : Model) → slice_get self.now.models model ≡ Some m → AreNumbersOf (names_in m) (model_nets self.now model) result.now }
+    {
+        self.survey.nets_of(model)
+    }
+
+    /// The place of a name of a reached model among its nets, by the number of the name. `None` where
+    /// it is a clock name, or where there is no such number.
+    pub fn place_at(&self, model: u32, number: u32) -> Option<u32>
+        requires { IsReached self.now model }
+        ensures { (m : Model) (name : List ℕ) → slice_get self.now.models model ≡ Some m → slice_get (names_in m) number ≡ Some name → result ≡ position (bytes_eq name) (model_nets self.now model) }
+    {
+        self.survey.place_at(model, number)
     }
 
     /// How many nets a reached model has.

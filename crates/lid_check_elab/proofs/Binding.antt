@@ -1,25 +1,20 @@
 -- The nets that formals are bound to, and whole templates.
-use Rattle.std.proofs.Common.{◌≡◌, ◌≢◌, ◌⊎◌, inl, inr, eqb, ℕ, ◌+◌, ◌<◌, ◌≤◌, nat_lt, get_or, Bool, true, false, not, cond, List, [], ◌∷◌, ◌++◌, length, map, find, position, Option, Some, None, option_and_then, option_map, slice_get, refl, sym, ◌∙◌, ap, subst, arith}
+use Rattle.std.proofs.Common.{◌≡◌, ◌≢◌, ◌⊎◌, inl, inr, eqb, ℕ, ◌+◌, ◌<◌, ◌≤◌, nat_lt, Bool, true, false, not, cond, List, [], ◌∷◌, ◌++◌, length, map, find, position, Option, Some, None, option_and_then, slice_get, refl, sym, ◌∙◌, ap, subst, arith}
 use Rattle.std.specs.Option.{option_map_or}
 use Rattle.std.specs.List.{prefix_len, position_or_len, count_by}
 use Rattle.std.specs.Str.{bytes_eq}
 use Rattle.std.proofs.lemmas.Bool.{ltb-false}
 use Rattle.std.proofs.lemmas.Bool.Decides.{eqb_tells}
 use Rattle.std.proofs.lemmas.List.{length-map}
-use Rattle.std.proofs.lemmas.Option.{slice_get-map, slice_get_read}
-use Rattle.lid_base.proofs.Lists.{get_among}
-use Rattle.lid_check_names.proofs.Numbers.{position_below}
 use Rattle.lid_design.specs.declared.Design.{Design}
 use Rattle.lid_design.specs.declared.Model.{Model}
 use Rattle.lid_design.specs.declared.Inst.{Inst}
 use Rattle.lid_design.specs.declared.Bind.{Bind}
 use Rattle.lid_design.specs.Models.{firsts, insts_of, number_named, number_from, instance_number, IsReached, formal_of}
-use Rattle.lid_design.specs.Elaboration.{model_nets}
-use Rattle.lid_check_names.specs.Names.{texts}
 use Rattle.lid_check_hierarchy.proofs.Fixpoints.{find_position}
 use Rattle.lid_check_hierarchy.proofs.Numbers.{bytes_eq_comm}
 use Rattle.lid_check_drivers.specs.Locals.{values_of, first_name_of, actual_for, model_locals}
-use Rattle.lid_check_elab.specs.Parts.{ShowsDrivers, picks_among, places_bound, places_in_inst, IsTemplate, IsPicked, ArePicked}
+use Rattle.lid_check_elab.specs.Parts.{ShowsDrivers, ArePlaces, places_bound, places_in_inst, IsTemplate, IsPicked, ArePicked}
 use Rattle.lid_check_drivers.specs.Judged.{IsJudged}
 use Rattle.lid_check_elab.specs.declared.driven.Driven.{Driven}
 use Rattle.lid_check_elab.specs.declared.template.LocalDriver.{LocalDriver}
@@ -67,13 +62,6 @@ actual_by inst formal o place =
     ∙ ap actual_in (find_position (λ b. bytes_eq formal b.formal) inst.binds)
     ∙ ap (λ (p : Option ℕ). actual_in (option_and_then (slice_get inst.binds) p)) (sym (position_map formal_of (bytes_eq formal) inst.binds) ∙ place)
 
-pub actual_some : (inst : Inst) (formal : List ℕ) (place : ℕ) (b : Bind) → position (bytes_eq formal) (map formal_of inst.binds) ≡ Some place → b ≡ get_or inst.binds place b → b.actual ≡ actual_for inst formal
-actual_some inst formal place b at is =
-    let long : length (map formal_of inst.binds) ≡ length inst.binds = length-map inst.binds formal_of in
-    let below : place < length inst.binds = (let e = position_below (bytes_eq formal) (map formal_of inst.binds) place at in omega arith) in
-    let there : slice_get inst.binds place ≡ Some b = slice_get_read inst.binds (length inst.binds) place b refl below is in
-    sym (actual_by inst formal (Some place) at ∙ ap actual_in there)
-
 pub position_past : (p : List ℕ → Bool) (xs : List (List ℕ)) → position p xs ≡ None → length xs ≡ position_or_len p xs
 position_past p xs none = by (nat_lt (position_or_len p xs) (length xs)) refl none
   where
@@ -108,22 +96,12 @@ module _ (d : Design) (judged : IsJudged d) (k : ℕ) (reached : IsReached d k) 
       judged_inst : IsSoundInst d sub.model inst
       judged_inst = (sound d judged k reached m here).insts i inst sub.model own sub.named
 
-  -- the first places of the nets among those that are driven pick what drives them
-  pub nets_picked : (all : List LocalDriver) (picks : List ℕ) (driven : Driven) → ShowsDrivers d k (model_locals d k) driven → all ≡ driven.locals.items → picks ≡ picks_among d k (firsts (texts driven.nets.items)) → ArePicked d k all picks
-  nets_picked all picks driven shows locals is = record {
-    long = ap length is ∙ length-map (model_nets d k) pick_of;
-    each = each;
+  -- the places of the nets among those that are driven pick what drives them
+  pub nets_picked : (all : List LocalDriver) (picks : List ℕ) (driven : Driven) → ShowsDrivers d k (model_locals d k) driven → all ≡ driven.locals.items → ArePlaces d k driven.nets.items picks → ArePicked d k all picks
+  nets_picked all picks driven shows locals are = record {
+    long = are.long;
+    each = λ j pick net at there. subst (λ (ls : List LocalDriver). IsPicked d k ls pick net) (sym locals) (picked_by d judged k reached m here driven picks shows are j pick net at there);
   }
-    where
-      pick_of : List ℕ → ℕ
-      pick_of net = position_or_len (bytes_eq net) (firsts (texts driven.nets.items))
-
-      each : (j pick : ℕ) (net : List ℕ) → slice_get picks j ≡ Some pick → slice_get (model_nets d k) j ≡ Some net → IsPicked d k all pick net
-      each j pick net at there =
-          let mapped : Some (pick_of net) ≡ Some pick = sym (ap (λ (ps : List ℕ). slice_get ps j) is ∙ slice_get-map pick_of (model_nets d k) j ∙ ap (option_map pick_of) there) ∙ at in
-          let same : pick_of net ≡ pick = cc in
-          subst (λ (p : ℕ). IsPicked d k all p net) same
-          (subst (λ ls. IsPicked d k ls (pick_of net) net) (sym locals) (picked_by d judged k reached m here driven shows net (get_among (model_nets d k) j net there)))
 
 -- the template of a model is there
 abbrev pub HasTemplate : Design → List Template → ℕ → Type 0

@@ -4,7 +4,6 @@ use Rattle.std.specs.Option.{option_map_or}
 use Rattle.std.specs.List.{flat_map, enumerate_from}
 use Rattle.std.proofs.lemmas.List.{map-append, append-nil, length-map}
 use Rattle.std.proofs.lemmas.Option.{slice_get-map, slice_get_read, slice_get_within}
-use Rattle.lid_check_names.specs.Names.{texts}
 use Rattle.lid_base.proofs.Lists.{filter_same}
 use Rattle.lid_check_names.proofs.Lists.{is_among_firsts}
 use Rattle.lid_design.specs.declared.Design.{Design}
@@ -14,8 +13,8 @@ use Rattle.lid_design.specs.declared.Bind.{Bind}
 use Rattle.lid_design.specs.Columns.{is_clock, data_inputs}
 use Rattle.lid_design.specs.Models.{is_clock_of, firsts, insts_of, number_named, instance_number, IsReached, data_inputs_of}
 use Rattle.lid_check_drivers.specs.Locals.{Local, NetLocal, inputs_from, local_connection, local_of, output_driver, outputs_of, locals, model_locals}
-use Rattle.lid_check_elab.specs.Templates.{shown_local}
-use Rattle.lid_check_elab.specs.Parts.{net_of, numbered_local, Grows, ShowsDrivers, data_of, output_sets}
+use Rattle.lid_check_elab.specs.Templates.{shown_local, name_at}
+use Rattle.lid_check_elab.specs.Parts.{driven_net, numbered_local, Grows, ShowsDrivers, data_of, output_sets}
 use Rattle.lid_check_drivers.specs.Judged.{IsJudged}
 use Rattle.lid_check_elab.specs.declared.driven.Driven.{Driven}
 use Rattle.lid_check_drivers.proofs.Clocking.{named_model}
@@ -25,7 +24,7 @@ use Rattle.lid_base.proofs.Places.{item_at}
 
 -- what was pushed and what is left are what was there at first and all that is pushed
 pub record Left (d : Design) (k : ℕ) (now : Driven) (rest : List NetLocal) (old : Driven) (whole : List NetLocal) : Type 0 where
-  pub nets : texts now.nets.items ++ map net_of rest ≡ texts old.nets.items ++ map net_of whole
+  pub nets : map (name_at d k) now.nets.items ++ map driven_net rest ≡ map (name_at d k) old.nets.items ++ map driven_net whole
   pub locals : map (shown_local d) now.locals.items ++ map (numbered_local d k) rest ≡ map (shown_local d) old.locals.items ++ map (numbered_local d k) whole
 
 -- some items go from what is left to what is there
@@ -92,12 +91,9 @@ pub model_here : (d : Design) → IsJudged d → (k : ℕ) → IsReached d k →
 model_here d judged k reached = item_at d.models k (model_below d judged k reached)
 
 module _ (d : Design) (k : ℕ) where
-  pub left_start : (now : Driven) (whole : List NetLocal) → Left d k now whole now whole
-  left_start now whole = record { nets = refl; locals = refl }
-
   left_next : (ps rest : List NetLocal) (now new old : Driven) (whole : List NetLocal) → Grows d k ps now new → Left d k now (ps ++ rest) old whole → Left d k new rest old whole
   left_next ps rest now new old whole grows left = record {
-    nets = moved net_of (texts now.nets.items) (texts new.nets.items) ps rest _ grows.nets left.nets;
+    nets = moved driven_net (map (name_at d k) now.nets.items) (map (name_at d k) new.nets.items) ps rest _ grows.nets left.nets;
     locals = moved (numbered_local d k) (map (shown_local d) now.locals.items) (map (shown_local d) new.locals.items) ps rest _ grows.locals left.locals;
   }
 
@@ -108,11 +104,11 @@ module _ (d : Design) (k : ℕ) where
       left_next ps (h (drop (i + 1) xs)) now new old whole grows (subst (λ (qs : List NetLocal). Left d k now qs old whole) rest left)
 
   pub grows_none : (now : Driven) → Grows d k [] now now
-  grows_none now = record { nets = sym (append-nil (texts now.nets.items)); locals = sym (append-nil (map (shown_local d) now.locals.items)) }
+  grows_none now = record { nets = sym (append-nil (map (name_at d k) now.nets.items)); locals = sym (append-nil (map (shown_local d) now.locals.items)) }
 
   grows_both : (ps qs : List NetLocal) (a b c : Driven) → Grows d k ps a b → Grows d k qs b c → Grows d k (ps ++ qs) a c
   grows_both ps qs a b c first second = record {
-    nets = after_both net_of (texts a.nets.items) (texts b.nets.items) (texts c.nets.items) ps qs first.nets second.nets;
+    nets = after_both driven_net (map (name_at d k) a.nets.items) (map (name_at d k) b.nets.items) (map (name_at d k) c.nets.items) ps qs first.nets second.nets;
     locals = after_both (numbered_local d k) (map (shown_local d) a.locals.items) (map (shown_local d) b.locals.items) (map (shown_local d) c.locals.items) ps qs first.locals second.locals;
   }
 
@@ -125,13 +121,13 @@ module _ (d : Design) (k : ℕ) where
     inputs_are = data_is ∙ sym (ap (λ (o : Option Model). option_map_or (data_inputs d) o []) here)
 
     -- all that drives nets of a model
-    pub shows_all : (a b c e : Driven) → texts a.nets.items ≡ [] → map (shown_local d) a.locals.items ≡ [] → Grows d k (inputs_from 0 (data_of d k m.inputs)) a b → Grows d k (map local_of m.cells) b c → Grows d k (flat_map (outputs_of d) (enumerate_from 0 m.insts)) c e → ShowsDrivers d k (model_locals d k) e
+    pub shows_all : (a b c e : Driven) → map (name_at d k) a.nets.items ≡ [] → map (shown_local d) a.locals.items ≡ [] → Grows d k (inputs_from 0 (data_of d k m.inputs)) a b → Grows d k (map local_of m.cells) b c → Grows d k (flat_map (outputs_of d) (enumerate_from 0 m.insts)) c e → ShowsDrivers d k (model_locals d k) e
     unfolding locals
     shows_all a b c e no_nets no_locals first second third =
         let inner = map local_of m.cells ++ flat_map (outputs_of d) (enumerate_from 0 m.insts) in
         let grows = grows_both (inputs_from 0 (data_of d k m.inputs)) inner a b e first (grows_both (map local_of m.cells) (flat_map (outputs_of d) (enumerate_from 0 m.insts)) b c e second third) in
         let whole : inputs_from 0 (data_of d k m.inputs) ++ inner ≡ model_locals d k = ap (λ (ns : List (List ℕ)). inputs_from 0 ns ++ inner) data_is ∙ sym (ap (λ (o : Option Model). option_map_or (locals d) o []) here) in
         record {
-          nets = grows.nets ∙ ap (λ (ns : List (List ℕ)). ns ++ map net_of (inputs_from 0 (data_of d k m.inputs) ++ inner)) no_nets ∙ ap (map net_of) whole;
+          nets = grows.nets ∙ ap (λ (ns : List (Option (List ℕ))). ns ++ map driven_net (inputs_from 0 (data_of d k m.inputs) ++ inner)) no_nets ∙ ap (map driven_net) whole;
           locals = grows.locals ∙ ap (λ (ls : List (Local ℕ)). ls ++ map (numbered_local d k) (inputs_from 0 (data_of d k m.inputs) ++ inner)) no_locals ∙ ap (map (numbered_local d k)) whole;
         }

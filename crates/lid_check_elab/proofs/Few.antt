@@ -7,13 +7,13 @@ use Rattle.std.specs.Cmp.Lexicographic.{nat_list_eq_equiv}
 use Rattle.std.proofs.lemmas.List.{length-map}
 use Rattle.std.proofs.lemmas.Map.Made.{length-le_from_is_member}
 use Rattle.lid_base.specs.Lists.{Among, AreOnce}
-use Rattle.lid_base.proofs.Lists.{among_append, filter_among, filter_le}
+use Rattle.lid_base.proofs.Lists.{among_append, filter_among}
 use Rattle.lid_base.proofs.Once.{once_distinct}
 use Rattle.lid_base.proofs.Sums.{count_here}
 use Rattle.lid_design.specs.declared.Design.{Design}
 use Rattle.lid_design.specs.declared.Model.{Model}
 use Rattle.lid_design.specs.Columns.{is_among, is_clock, data_inputs}
-use Rattle.lid_design.specs.Models.{firsts, nets, inner_drivers, driven_by, read_names, cell_out, IsReached}
+use Rattle.lid_design.specs.Models.{nets, inner_drivers, driven_by, read_names, cell_out, IsReached}
 use Rattle.lid_design.specs.Elaboration.{model_nets}
 use Rattle.lid_check_drivers.specs.Judged.{IsJudged}
 use Rattle.lid_check_drivers.specs.Locals.{locals, model_locals}
@@ -24,14 +24,6 @@ use Rattle.lid_check_drivers.proofs.Driven.{inner_spot, driven_once}
 use Rattle.lid_check_elab.specs.Parts.{data_of}
 use Rattle.lid_check_elab.proofs.Counting.{nets_small}
 use Rattle.lid_check_elab.proofs.Driving.{model_here, data_is}
-
--- a set has no more names than the list that it was made of
-pub firsts_fewer : (names : List (List ℕ)) → length (firsts names) ≤ length names
-firsts_fewer [] = omega arith
-firsts_fewer (x ∷ names) =
-    let a = filter_le (λ other. not (bytes_eq other x)) (firsts names) in
-    let b = firsts_fewer names in
-    omega arith
 
 -- names that are each counted once
 are_once : (names : List (List ℕ)) → ((x : List ℕ) → Among x names → count_by (bytes_eq x) names ≤ 1) → AreOnce names

@@ -8,6 +8,7 @@ pub mod Stacking
 pub mod Whole
 pub mod Entering
 pub mod Counting
+pub mod Naming
 pub mod Driving
 pub mod Few
 pub mod Picking

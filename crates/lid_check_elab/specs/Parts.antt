@@ -1,17 +1,14 @@
 -- What a template is made of, part by part.
 use Rattle.std.specs.Prelude.{◌≡◌, ℕ, not, List, [], ◌∷◌, ◌++◌, length, map, filter, Option, Some, None, slice_get, slice_index_or}
 use Rattle.std.specs.Option.{option_map_or}
-use Rattle.std.specs.List.{position_or_len}
-use Rattle.std.specs.Str.{bytes_eq}
 use Rattle.lid_design.specs.declared.Design.{Design}
 use Rattle.lid_design.specs.declared.Model.{Model}
 use Rattle.lid_design.specs.declared.Inst.{Inst}
 use Rattle.lid_design.specs.Models.{firsts, insts_of, number_named, instance_number, is_clock_of, IsReached, data_inputs_of}
 use Rattle.lid_design.specs.Elaboration.{model_nets}
-use Rattle.lid_check_names.specs.Names.{texts}
 use Rattle.lid_check_elab.specs.Numbers.{size_of, offset_of}
 use Rattle.lid_check_drivers.specs.Locals.{Local, NetLocal, values_of, actual_for, model_locals}
-use Rattle.lid_check_elab.specs.Templates.{shown_local, net_place, net_by_place}
+use Rattle.lid_check_elab.specs.Templates.{shown_local, name_at, net_place, net_by_place}
 use Rattle.lid_check_elab.specs.declared.driven.Driven.{Driven}
 use Rattle.lid_check_elab.specs.declared.template.LocalDriver.{LocalDriver}
 use Rattle.lid_check_elab.specs.declared.template.Template.{Template}
@@ -26,21 +23,26 @@ pub record AreSizes (d : Design) (some : ℕ → Type 0) (sizes : List (Option �
 abbrev pub HasSizes : Design → ℕ → List (Option ℕ) → Type 0
 HasSizes d k sizes = (i j : ℕ) → instance_number d i k ≡ Some j → slice_index_or sizes j None ≡ Some (size_of d j)
 
--- the net that is driven, and what drives it
-abbrev pub net_of : NetLocal → List ℕ
-net_of p = p.0
+-- the net that is driven
+abbrev pub driven_net : NetLocal → Option (List ℕ)
+driven_net p = Some p.0
 
 abbrev pub numbered_local : Design → ℕ → NetLocal → Local ℕ
 numbered_local d k p = net_by_place d k p.1
 
+-- a net, by its number, and what drives it were pushed
+pub record PushesNet (net : ℕ) (local : LocalDriver) (old new : Driven) : Type 0 where
+  pub nets : new.nets.items ≡ old.nets.items ++ net ∷ []
+  pub locals : new.locals.items ≡ old.locals.items ++ local ∷ []
+
 -- some drivers of nets of model k were pushed
 pub record Grows (d : Design) (k : ℕ) (ps : List NetLocal) (old new : Driven) : Type 0 where
-  pub nets : texts new.nets.items ≡ texts old.nets.items ++ map net_of ps
+  pub nets : map (name_at d k) new.nets.items ≡ map (name_at d k) old.nets.items ++ map driven_net ps
   pub locals : map (shown_local d) new.locals.items ≡ map (shown_local d) old.locals.items ++ map (numbered_local d k) ps
 
 -- these are drivers of nets of model k
 pub record ShowsDrivers (d : Design) (k : ℕ) (ps : List NetLocal) (driven : Driven) : Type 0 where
-  pub nets : texts driven.nets.items ≡ map net_of ps
+  pub nets : map (name_at d k) driven.nets.items ≡ map driven_net ps
   pub locals : map (shown_local d) driven.locals.items ≡ map (numbered_local d k) ps
 
 -- the inputs of a list that are no clock names of the model of a number
@@ -51,9 +53,10 @@ data_of d k names = filter (λ net. not (is_clock_of d k net)) names
 abbrev pub output_sets : List Model → List (List (List ℕ))
 output_sets ms = map (λ m. firsts m.outputs) ms
 
--- for each net of model k, its place among some nets
-abbrev pub picks_among : Design → ℕ → List (List ℕ) → List ℕ
-picks_among d k nets = map (λ net. position_or_len (bytes_eq net) nets) (model_nets d k)
+-- for each net of model k, a place at which its number stands in a list, where it stands there
+pub record ArePlaces (d : Design) (k : ℕ) (numbers places : List ℕ) : Type 0 where
+  pub long : length places ≡ length (model_nets d k)
+  pub each : (j place other : ℕ) (net : List ℕ) → slice_get places j ≡ Some place → slice_get (model_nets d k) j ≡ Some net → slice_get (map (name_at d k) numbers) other ≡ Some (Some net) → slice_get (map (name_at d k) numbers) place ≡ Some (Some net)
 
 -- the nets of model k that the data inputs of an instance are bound to, where its model has number j
 abbrev pub places_bound : Design → ℕ → ℕ → Inst → List ℕ

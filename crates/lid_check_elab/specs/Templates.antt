@@ -1,6 +1,6 @@
 -- What drives the nets of a model, by the places of nets, and what that is in a scope of the elaboration.
 use denote.Ref.{Bor}
-use Rattle.std.specs.Prelude.{ℕ, ◌+◌, ◌<◌, ◌≤◌, ⊤, List, length, map, Option, Some, None, slice_index}
+use Rattle.std.specs.Prelude.{ℕ, ◌+◌, ◌<◌, ◌≤◌, ⊤, List, [], length, map, Option, Some, None, slice_get, slice_index}
 use Rattle.std.specs.Option.{option_map_or}
 use Rattle.std.specs.List.{All, position_or_len}
 use Rattle.std.specs.Str.{bytes_eq}
@@ -8,6 +8,7 @@ use Rattle.lid_design.specs.declared.Design.{Design}
 use Rattle.lid_design.specs.Network.{Driver, from_input, from_connection}
 use Rattle.lid_design.specs.Models.{instance_number}
 use Rattle.lid_design.specs.Elaboration.{model_nets}
+use Rattle.lid_check_table.specs.Tables.{names_in}
 use Rattle.lid_check_drivers.specs.Locals.{Local, resolved, local_input, local_latch, local_cover, local_connection}
 use Rattle.lid_check_elab.specs.Covers.{cover_in}
 use Rattle.lid_check_elab.specs.declared.template.LocalDriver.{LocalDriver}
@@ -19,6 +20,14 @@ shown_local d (Input place) = local_input place
 shown_local d (Latch first input) = local_latch first input
 shown_local d (OfCover model cell inputs) = local_cover (cover_in d model cell) inputs
 shown_local d (Connection inst net) = local_connection inst net
+
+-- the names of a model, by its number
+abbrev pub model_names : Design → ℕ → List (List ℕ)
+model_names d k = option_map_or names_in (slice_get d.models k) []
+
+-- the name to which a number leads in a model
+abbrev pub name_at : Design → ℕ → ℕ → Option (List ℕ)
+name_at d k number = slice_get (model_names d k) number
 
 -- the place of a net among those of a model
 abbrev pub net_place : Design → ℕ → List ℕ → ℕ

@@ -136,11 +136,11 @@ pub fn find_templates(alloc: Global, judged: &Judged<'_>) -> Result<Items<Templa
 }
 
 /// Pushes what is known of each model before it is placed, where there is nothing yet.
-fn push_templates<'d>(
+fn push_templates(
     alloc: Global,
-    judged: &Judged<'d>,
+    judged: &Judged<'_>,
     sizes: &[Option<u32>],
-    outputs: &[NameSet<'d>],
+    outputs: &[NameSet<'_>],
     templates: &mut Vec<Template>,
 ) -> Result<(), AllocError>
     requires sizes { AreSizes judged.now (IsReached judged.now) sizes.now }
@@ -157,11 +157,11 @@ fn push_templates<'d>(
 }
 
 /// What is known of a model before it is placed; nothing where it is not reached.
-fn template_of<'d>(
+fn template_of(
     alloc: Global,
-    judged: &Judged<'d>,
+    judged: &Judged<'_>,
     sizes: &[Option<u32>],
-    outputs: &[NameSet<'d>],
+    outputs: &[NameSet<'_>],
     model: u32,
 ) -> Result<Template, AllocError>
     requires sizes { AreSizes judged.now (IsReached judged.now) sizes.now }
@@ -190,10 +190,10 @@ struct Nets {
 }
 
 /// What drives the nets of a reached model, and which of it drives each.
-fn describe_nets<'d>(
+fn describe_nets(
     alloc: Global,
-    judged: &Judged<'d>,
-    outputs: &[NameSet<'d>],
+    judged: &Judged<'_>,
+    outputs: &[NameSet<'_>],
     model: u32,
 ) -> Result<Nets, AllocError>
     requires reached { IsReached judged.now model }

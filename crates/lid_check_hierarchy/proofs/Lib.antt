@@ -7,5 +7,6 @@ pub mod Growing
 pub mod Fixpoints
 pub mod Clocking
 pub mod Listing
+pub mod Placing
 pub mod Surveying
 pub mod Distinct

@@ -7,16 +7,20 @@ ghost use Rattle.lid_design.specs.Elaboration.{model_nets};
 ghost use Rattle.lid_check_names.specs.Names.{texts};
 ghost use Rattle.lid_design.specs.WellFormed.{IsWellFormed};
 ghost use Rattle.lid_check_hierarchy.specs.declared.survey.SurveyFault.TheVariants.{Memory};
+ghost use Rattle.lid_design.specs.declared.Model.{Model};
+ghost use Rattle.lid_check_table.specs.Tables.{names_in, AreNumbersOf};
+ghost use Rattle.lid_check_hierarchy.specs.Nets.{net_places};
 ghost use Rattle.lid_check_hierarchy.specs.Graphs.{AreReachedAmong};
 ghost use Rattle.lid_check_hierarchy.specs.Surveys.{AreKnown, AreNames, IsModelOrder, IsSurveyFault};
 
 use crate::clocks::find_clocks;
 use crate::inputs::{NameList, find_inputs};
-use crate::nets::find_nets;
+use crate::nets::{NetLists, find_nets, find_tables};
 use crate::uses::Uses;
 use lid_base::Items;
 use lid_check_digraph::{Digraph, Found, find_order};
 use lid_check_names::NameSet;
+use lid_check_table::Table;
 use lid_design::Design;
 use std::alloc::{AllocError, Global};
 use std::marker::Model;
@@ -31,13 +35,15 @@ pub struct Survey<'d> {
     names: ModelNames<'d>,
 }
 
-/// The names in each model, none where it is not reached.
+/// The names in each model.
 #[derive(Drop)]
 pub struct ModelNames<'d> {
-    /// The clock names.
+    /// The names by numbers.
+    tables: Items<Table<'d>>,
+    /// The clock names, none where a model is not reached.
     clocks: Items<NameSet<'d>>,
-    /// The nets.
-    nets: Items<NameSet<'d>>,
+    /// The nets by the numbers of the names.
+    nets: NetLists,
     /// The data inputs.
     inputs: Items<NameList<'d>>,
 }
@@ -52,7 +58,7 @@ impl<'d> Model for Survey<'d> {
 
     ghost view = { λ s. s.uses };
 
-    ghost invariant = { λ s. IsSurvey s.uses s.order s.names.clocks s.names.nets s.names.inputs };
+    ghost invariant = { λ s. IsSurvey s.uses s.order s.names.tables s.names.clocks s.names.nets.numbers s.names.nets.places s.names.inputs };
 }
 
 /// Why the models of a design are not surveyed.
@@ -97,20 +103,22 @@ fn survey_in_order<'d>(
     }
 }
 
-/// The clock names, the nets and the data inputs of the models of an order.
+/// The names in the models of an order.
 fn find_names<'d>(
     alloc: Global,
     uses: &Uses<'d>,
     order: &[u32],
 ) -> Result<ModelNames<'d>, AllocError>
     requires { IsModelOrder uses.now order.now }
-    ensures { IfOk result (λ names. AreNames uses.now names.clocks names.nets names.inputs) }
+    ensures { IfOk result (λ names. AreNames uses.now names.tables names.clocks names.nets.numbers names.nets.places names.inputs) }
 {
     let clocks = find_clocks(alloc, uses, order)?;
     let models = uses.design().models.as_slice();
-    let nets = find_nets(alloc, models, clocks.as_slice())?;
+    let tables = find_tables(alloc, models)?;
+    let nets = find_nets(alloc, tables.as_slice(), clocks.as_slice())?;
     let inputs = find_inputs(alloc, models, clocks.as_slice())?;
     Ok(ModelNames {
+        tables,
         clocks,
         nets,
         inputs,
@@ -199,12 +207,48 @@ impl<'d> Survey<'d> {
         &self.names.clocks.as_slice()[model as usize]
     }
 
-    /// The nets of a reached model: its names that are no clock names.
-    fn nets_of(&self, model: u32) -> &NameSet<'d>
+    /// The names of a reached model by numbers.
+    pub fn table_of(&self, model: u32) -> &Table<'d>
         requires { IsReached self.now model }
-        ensures { result.now ≡ model_nets self.now model }
+        ensures { slice_get self.now.models model ≡ Some result.now }
     {
-        &self.names.nets.as_slice()[model as usize]
+        &self.names.tables.as_slice()[model as usize]
+    }
+
+    /// The numbers of the nets of a reached model, in order.
+    pub fn nets_of(&self, model: u32) -> &[u32]
+        requires { IsReached self.now model }
+        ensures { (m : Model) → slice_get self.now.models model ≡ Some m → AreNumbersOf (names_in m) (model_nets self.now model) result.now }
+    {
+        self.names.nets.numbers.as_slice()[model as usize].as_slice()
+    }
+
+    /// The place of a name of a reached model among its nets, by the number of the name. `None` where
+    /// it is a clock name, or where there is no such number.
+    pub fn place_at(&self, model: u32, number: u32) -> Option<u32>
+        requires { IsReached self.now model }
+        ensures { (m : Model) (name : List ℕ) → slice_get self.now.models model ≡ Some m → slice_get (names_in m) number ≡ Some name → result ≡ position (bytes_eq name) (model_nets self.now model) }
+    {
+        self.place_by(model, number as usize)
+    }
+
+    /// The place of a name of a reached model among its nets, by the number of the name.
+    fn place_by(&self, model: u32, number: usize) -> Option<u32>
+        requires { IsReached self.now model }
+        ensures { (m : Model) (name : List ℕ) → slice_get self.now.models model ≡ Some m → slice_get (names_in m) number ≡ Some name → result ≡ position (bytes_eq name) (model_nets self.now model) }
+    {
+        match self.places_of(model).get(number) {
+            Some(place) => *place,
+            None => None,
+        }
+    }
+
+    /// For each name of a reached model its place among the nets, where it is one.
+    fn places_of(&self, model: u32) -> &[Option<u32>]
+        requires { IsReached self.now model }
+        ensures { (m : Model) → slice_get self.now.models model ≡ Some m → result.now ≡ net_places (model_nets self.now model) (names_in m) }
+    {
+        self.names.nets.places.as_slice()[model as usize].as_slice()
     }
 
     /// How many nets a reached model has.
@@ -213,6 +257,7 @@ impl<'d> Survey<'d> {
         ensures value { result ≡ length (model_nets self.now model) }
         ensures small { result < 2 ^ 63 }
     {
+        let _ = &self.uses;
         self.nets_of(model).len()
     }
 
@@ -221,7 +266,11 @@ impl<'d> Survey<'d> {
         requires { IsReached self.now model }
         ensures { option_map (λ (r : Bor (List ℕ)). r.now) result ≡ slice_get (model_nets self.now model) place }
     {
-        self.nets_of(model).name_at(place)
+        let _ = &self.uses;
+        match number_in(self.nets_of(model), place) {
+            Some(number) => self.table_of(model).name_at(number as usize),
+            None => None,
+        }
     }
 
     /// The data inputs of a reached model, in order.
@@ -237,6 +286,26 @@ impl<'d> Survey<'d> {
         requires { IsReached self.now model }
         ensures { result ≡ position (bytes_eq name.now) (model_nets self.now model) }
     {
-        self.nets_of(model).place_of(name)
+        match self.table_of(model).number_of(name) {
+            Some(number) => widen(self.place_by(model, number)),
+            None => None,
+        }
     }
+}
+
+/// A place as an index.
+fn widen(place: Option<u32>) -> Option<usize>
+    ensures { result ≡ place }
+{
+    match place {
+        Some(place) => Some(place as usize),
+        None => None,
+    }
+}
+
+/// The number at a place of a list.
+fn number_in(numbers: &[u32], place: usize) -> Option<u32>
+    ensures { result ≡ slice_get numbers.now place }
+{
+    numbers.get(place).copied()
 }

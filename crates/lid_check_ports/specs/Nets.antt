@@ -28,8 +28,8 @@ nets_on Read d inst = read_by d inst
 
 -- what is driven and read in the model of a number
 pub record AreNets (d : Design) (k : ℕ) (nets : Nets) : Type 0 where
-  pub here : slice_get d.models k ≡ Some nets.table
-  pub driven : nets.drivers.all.all ≡ marks_of (names_in nets.table) (driver_names d nets.table)
-  pub again : nets.drivers.all.twice ≡ again_of (names_in nets.table) (driver_names d nets.table)
-  pub within : nets.drivers.inner ≡ marks_of (names_in nets.table) (inner_drivers d nets.table)
-  pub read : nets.reads ≡ marks_of (names_in nets.table) (read_names d nets.table)
+  pub here : slice_get d.models k ≡ Some nets.table.now
+  pub driven : nets.drivers.all.all ≡ marks_of (names_in nets.table.now) (driver_names d nets.table.now)
+  pub again : nets.drivers.all.twice ≡ again_of (names_in nets.table.now) (driver_names d nets.table.now)
+  pub within : nets.drivers.inner ≡ marks_of (names_in nets.table.now) (inner_drivers d nets.table.now)
+  pub read : nets.reads ≡ marks_of (names_in nets.table.now) (read_names d nets.table.now)

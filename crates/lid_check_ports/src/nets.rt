@@ -25,8 +25,8 @@ pub enum Side {
 
 /// What is driven and read in a model, by the numbers of its names.
 #[derive(Drop)]
-pub struct Nets<'d> {
-    pub table: Table<'d>,
+pub struct Nets<'s, 'd> {
+    pub table: &'s Table<'d>,
     pub drivers: Drivers,
     /// For each name, whether it is read.
     pub reads: Items<bool>,
@@ -48,21 +48,20 @@ struct Numbered<'a> {
     actuals: &'a [u32],
 }
 
-/// Finds what is driven and read in a model.
-pub fn collect_nets<'d>(
+/// Finds what is driven and read in a reached model.
+pub fn collect_nets<'s, 'd>(
     alloc: Global,
-    ports: &Ports<'d>,
+    ports: &'s Ports<'d>,
     k: u32,
-    model: &'d Model,
-) -> Result<Nets<'d>, AllocError>
-    requires reached { IsReached ports.now k }
-    requires model { slice_get ports.now.models k ≡ Some model.now }
-    requires few { length model.now.insts < 2 ^ 32 }
-    ensures { IfOk result (λ nets. (nets.table ≡ model.now) × AreNets ports.now k nets) }
+) -> Result<Nets<'s, 'd>, AllocError>
+    requires { IsReached ports.now k }
+    ensures { IfOk result (AreNets ports.now k) }
 {
-    let table = Table::collect(alloc, model)?;
-    let drivers = collect_drivers(alloc, ports, k, &table)?;
-    let reads = collect_reads(alloc, ports, k, &table)?;
+    let survey = ports.survey();
+    let _ = survey.design();
+    let table = survey.table_of(k);
+    let drivers = collect_drivers(alloc, ports, k, table)?;
+    let reads = collect_reads(alloc, ports, k, table)?;
     Ok(Nets {
         table,
         drivers,

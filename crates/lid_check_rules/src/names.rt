@@ -1,4 +1,4 @@
-ghost use Rattle.std.specs.Prelude.{◌≡◌, ◌||◌, not, ℕ, List, true, false, Some, None, map, slice_get, IfOk};
+ghost use Rattle.std.specs.Prelude.{◌≡◌, ◌||◌, not, ℕ, List, true, false, Some, map, slice_get, IfOk};
 ghost use Rattle.std.specs.List.{list_all};
 ghost use Rattle.lid_check_table.specs.Tables.{names_in};
 ghost use Rattle.lid_design.specs.Models.{IsReached, AreReached};
@@ -99,34 +99,20 @@ fn told_by<'d>(found: &Findings<'d>, rule: NameRule) -> Option<Told<'d>>
     }
 }
 
-/// Nothing is told.
-fn no_findings<'d>() -> Findings<'d>
-    ensures { (rule : NameRule) → told_by rule result ≡ None }
-{
-    Findings {
-        two_drivers: None,
-        undriven: None,
-        clock_use: None,
-    }
-}
-
 /// What each condition on names tells of the model of a number.
 fn findings_at<'d>(alloc: Global, ports: &Ports<'d>, k: u32) -> Result<Findings<'d>, AllocError>
     requires { IsReached ports.now k }
     ensures { IfOk result (λ found. (rule : NameRule) → told_by rule found ≡ name_at rule ports.now k) }
 {
-    let Some(model) = ports.model(k) else {
-        return Ok(no_findings());
-    };
-    let nets = collect_nets(alloc, ports, k, model)?;
+    let nets = collect_nets(alloc, ports, k)?;
     Ok(tell_each(ports, k, &nets))
 }
 
 /// What each condition on names tells of a model, by what is driven and read in it.
-fn tell_each<'d>(ports: &Ports<'d>, k: u32, nets: &Nets<'d>) -> Findings<'d>
+fn tell_each<'d>(ports: &Ports<'d>, k: u32, nets: &Nets<'_, 'd>) -> Findings<'d>
     requires reached { IsReached ports.now k }
     requires nets { AreNets ports.now k nets.now }
-    ensures { (rule : NameRule) → told_by rule result ≡ name_rule rule ports.now nets.now.table }
+    ensures { (rule : NameRule) → told_by rule result ≡ name_rule rule ports.now nets.now.table.now }
 {
     Findings {
         two_drivers: tell_first(ports, NameRule::TwoDrivers, k, nets),
@@ -137,10 +123,10 @@ fn tell_each<'d>(ports: &Ports<'d>, k: u32, nets: &Nets<'d>) -> Findings<'d>
 
 /// Tells of the first name of a model at which a condition is broken. The names are told apart by their
 /// numbers, which go by where each comes first.
-fn tell_first<'d>(ports: &Ports<'d>, rule: NameRule, k: u32, nets: &Nets<'d>) -> Option<Told<'d>>
+fn tell_first<'d>(ports: &Ports<'d>, rule: NameRule, k: u32, nets: &Nets<'_, 'd>) -> Option<Told<'d>>
     requires reached { IsReached ports.now k }
     requires nets { AreNets ports.now k nets.now }
-    ensures { shown_of result ≡ name_rule rule ports.now nets.now.table }
+    ensures { shown_of result ≡ name_rule rule ports.now nets.now.table.now }
 {
     if is_unbroken(ports, rule, k, nets) {
         return None;
@@ -154,10 +140,10 @@ fn tell_first<'d>(ports: &Ports<'d>, rule: NameRule, k: u32, nets: &Nets<'d>) ->
 }
 
 /// Whether a condition is broken at no name of a model, where that is told without going over the names.
-fn is_unbroken(ports: &Ports<'_>, rule: NameRule, k: u32, nets: &Nets<'_>) -> bool
+fn is_unbroken(ports: &Ports<'_>, rule: NameRule, k: u32, nets: &Nets<'_, '_>) -> bool
     requires reached { IsReached ports.now k }
     requires nets { AreNets ports.now k nets.now }
-    ensures { result ≡ true → (name : List ℕ) → is_faulty rule ports.now nets.now.table name ≡ false }
+    ensures { result ≡ true → (name : List ℕ) → is_faulty rule ports.now nets.now.table.now name ≡ false }
 {
     match rule {
         NameRule::TwoDrivers => false,
@@ -167,19 +153,19 @@ fn is_unbroken(ports: &Ports<'_>, rule: NameRule, k: u32, nets: &Nets<'_>) -> bo
 }
 
 /// Whether each clock name of a model is used as one.
-fn are_clocks_used(ports: &Ports<'_>, k: u32, nets: &Nets<'_>) -> bool
+fn are_clocks_used(ports: &Ports<'_>, k: u32, nets: &Nets<'_, '_>) -> bool
     requires reached { IsReached ports.now k }
     requires nets { AreNets ports.now k nets.now }
-    ensures { result ≡ true → (name : List ℕ) → is_misused ports.now nets.now.table name ≡ false }
+    ensures { result ≡ true → (name : List ℕ) → is_misused ports.now nets.now.table.now name ≡ false }
 {
     are_all_used(ports, k, nets, ports.survey().clocks_of(k))
 }
 
 /// Whether each of some names is used as one may use it.
-fn are_all_used(ports: &Ports<'_>, k: u32, nets: &Nets<'_>, names: &NameSet<'_>) -> bool
+fn are_all_used(ports: &Ports<'_>, k: u32, nets: &Nets<'_, '_>, names: &NameSet<'_>) -> bool
     requires reached { IsReached ports.now k }
     requires nets { AreNets ports.now k nets.now }
-    ensures { result ≡ true → list_all (λ name. not (is_misused ports.now nets.now.table name)) names.now ≡ true }
+    ensures { result ≡ true → list_all (λ name. not (is_misused ports.now nets.now.table.now name)) names.now ≡ true }
 {
     for i in 0..names.len() {
         if !is_used_at(ports, k, nets, names, i) {
@@ -190,10 +176,10 @@ fn are_all_used(ports: &Ports<'_>, k: u32, nets: &Nets<'_>, names: &NameSet<'_>)
 }
 
 /// Whether the name at a place is used as one may use it.
-fn is_used_at(ports: &Ports<'_>, k: u32, nets: &Nets<'_>, names: &NameSet<'_>, place: usize) -> bool
+fn is_used_at(ports: &Ports<'_>, k: u32, nets: &Nets<'_, '_>, names: &NameSet<'_>, place: usize) -> bool
     requires reached { IsReached ports.now k }
     requires nets { AreNets ports.now k nets.now }
-    ensures { result ≡ true → (name : List ℕ) → slice_get names.now place ≡ Some name → is_misused ports.now nets.now.table name ≡ false }
+    ensures { result ≡ true → (name : List ℕ) → slice_get names.now place ≡ Some name → is_misused ports.now nets.now.table.now name ≡ false }
 {
     match names.name_at(place) {
         Some(name) => is_used(ports, k, nets, name),
@@ -202,10 +188,10 @@ fn is_used_at(ports: &Ports<'_>, k: u32, nets: &Nets<'_>, names: &NameSet<'_>, p
 }
 
 /// Whether a name of a model is no clock name, or is used as one.
-fn is_used(ports: &Ports<'_>, k: u32, nets: &Nets<'_>, name: &[u8]) -> bool
+fn is_used(ports: &Ports<'_>, k: u32, nets: &Nets<'_, '_>, name: &[u8]) -> bool
     requires reached { IsReached ports.now k }
     requires nets { AreNets ports.now k nets.now }
-    ensures { result ≡ true → is_misused ports.now nets.now.table name.now ≡ false }
+    ensures { result ≡ true → is_misused ports.now nets.now.table.now name.now ≡ false }
 {
     match nets.table.number_of(name) {
         Some(number) => !is_misused(ports, k, nets, number, name),
@@ -214,8 +200,8 @@ fn is_used(ports: &Ports<'_>, k: u32, nets: &Nets<'_>, name: &[u8]) -> bool
 }
 
 /// Tells of the name of a number.
-fn tell_at<'d>(rule: NameRule, nets: &Nets<'d>, number: usize) -> Option<Told<'d>>
-    ensures { (name : List ℕ) → slice_get (names_in nets.now.table) number ≡ Some name → shown_of result ≡ Some (told_name rule nets.now.table.name name) }
+fn tell_at<'d>(rule: NameRule, nets: &Nets<'_, 'd>, number: usize) -> Option<Told<'d>>
+    ensures { (name : List ℕ) → slice_get (names_in nets.now.table.now) number ≡ Some name → shown_of result ≡ Some (told_name rule nets.now.table.now.name name) }
 {
     match nets.table.name_at(number) {
         Some(name) => Some(tell_name(rule, nets.table.model().name.as_slice(), name)),
@@ -236,10 +222,10 @@ fn tell_name<'d>(rule: NameRule, model: &'d [u8], name: &'d [u8]) -> Told<'d>
 }
 
 /// Whether a condition is broken at the name of a number.
-fn is_faulty(ports: &Ports<'_>, rule: NameRule, k: u32, nets: &Nets<'_>, number: usize) -> bool
+fn is_faulty(ports: &Ports<'_>, rule: NameRule, k: u32, nets: &Nets<'_, '_>, number: usize) -> bool
     requires reached { IsReached ports.now k }
     requires nets { AreNets ports.now k nets.now }
-    ensures { (name : List ℕ) → slice_get (names_in nets.now.table) number ≡ Some name → result ≡ is_faulty rule ports.now nets.now.table name }
+    ensures { (name : List ℕ) → slice_get (names_in nets.now.table.now) number ≡ Some name → result ≡ is_faulty rule ports.now nets.now.table.now name }
 {
     match rule {
         NameRule::TwoDrivers => is_marked(nets.drivers.all.twice.as_slice(), number),
@@ -249,9 +235,9 @@ fn is_faulty(ports: &Ports<'_>, rule: NameRule, k: u32, nets: &Nets<'_>, number:
 }
 
 /// Whether the name of a number is read, and not driven.
-fn is_undriven(ports: &Ports<'_>, k: u32, nets: &Nets<'_>, number: usize) -> bool
+fn is_undriven(ports: &Ports<'_>, k: u32, nets: &Nets<'_, '_>, number: usize) -> bool
     requires { AreNets ports.now k nets.now }
-    ensures { (name : List ℕ) → slice_get (names_in nets.now.table) number ≡ Some name → result ≡ is_undriven ports.now nets.now.table name }
+    ensures { (name : List ℕ) → slice_get (names_in nets.now.table.now) number ≡ Some name → result ≡ is_undriven ports.now nets.now.table.now name }
 {
     let _ = ports;
     let _ = k;
@@ -261,10 +247,10 @@ fn is_undriven(ports: &Ports<'_>, k: u32, nets: &Nets<'_>, number: usize) -> boo
 }
 
 /// Whether the name of a number is a clock name that is not used as one.
-fn is_misused_at(ports: &Ports<'_>, k: u32, nets: &Nets<'_>, number: usize) -> bool
+fn is_misused_at(ports: &Ports<'_>, k: u32, nets: &Nets<'_, '_>, number: usize) -> bool
     requires reached { IsReached ports.now k }
     requires nets { AreNets ports.now k nets.now }
-    ensures { (name : List ℕ) → slice_get (names_in nets.now.table) number ≡ Some name → result ≡ is_misused ports.now nets.now.table name }
+    ensures { (name : List ℕ) → slice_get (names_in nets.now.table.now) number ≡ Some name → result ≡ is_misused ports.now nets.now.table.now name }
 {
     match nets.table.name_at(number) {
         Some(name) => is_misused(ports, k, nets, number, name),
@@ -273,11 +259,11 @@ fn is_misused_at(ports: &Ports<'_>, k: u32, nets: &Nets<'_>, number: usize) -> b
 }
 
 /// Whether a name of a model, with its number, is a clock name that is not used as one.
-fn is_misused(ports: &Ports<'_>, k: u32, nets: &Nets<'_>, number: usize, name: &[u8]) -> bool
+fn is_misused(ports: &Ports<'_>, k: u32, nets: &Nets<'_, '_>, number: usize, name: &[u8]) -> bool
     requires reached { IsReached ports.now k }
     requires nets { AreNets ports.now k nets.now }
-    requires name { slice_get (names_in nets.now.table) number ≡ Some name.now }
-    ensures { result ≡ is_misused ports.now nets.now.table name.now }
+    requires name { slice_get (names_in nets.now.table.now) number ≡ Some name.now }
+    ensures { result ≡ is_misused ports.now nets.now.table.now name.now }
 {
     let given = is_given(ports, k, name);
     let read = is_marked(nets.reads.as_slice(), number);

@@ -17,7 +17,7 @@ pub struct CellLists {
 }
 
 /// The number of a place. There are not so many names that it has none.
-fn number_at(place: usize) -> Result<u32, AllocError>
+pub fn number_at(place: usize) -> Result<u32, AllocError>
     ensures { IfOk result (λ number. number ≡ place) }
 {
     if place < 1 << 32 {

@@ -6,5 +6,6 @@ mod entering;
 mod marks;
 mod table;
 
+pub use entering::number_at;
 pub use marks::{MarkTally, is_marked, mark_names, tally_marks};
 pub use table::Table;

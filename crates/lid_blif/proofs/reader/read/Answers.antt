@@ -8,11 +8,11 @@ use Rattle.lid_blif.proofs.reader.read.Goals as goal
 
 pub returns-in-Ok-clause-formed : goal.returns-in-Ok-clause-formed
 returns-in-Ok-clause-formed c =
-    let lines = lines_cut c.in-Ok.list.spans.items c.in-Ok.list.words.items in
+    let lines = lines_cut c.in-Ok.list.sizes.items c.in-Ok.list.words in
     let few : length lines < 2 ^ 32 = omega (arith, ap length c.in-Ok.ensures.ok.1, logical_lines_le c.args.bytes.now) in
     if_ok c.design_of_list.result (λ d h. subst IsWellFormed (sym h.1) (lines_formed lines few h.0)) c.design_of_list.ensures.ok
 
 pub returns-in-Ok-clause-few : goal.returns-in-Ok-clause-few
 returns-in-Ok-clause-few c =
-    let lines = lines_cut c.in-Ok.list.spans.items c.in-Ok.list.words.items in
+    let lines = lines_cut c.in-Ok.list.sizes.items c.in-Ok.list.words in
     if_ok c.design_of_list.result (λ d h. subst (λ (d : Design). length d.models ≤ 4096) (sym h.1) (lines_few lines h.0)) c.design_of_list.ensures.ok

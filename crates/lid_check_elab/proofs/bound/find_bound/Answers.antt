@@ -15,7 +15,7 @@ find_places-requires-clause-once c =
     let d = c.args.judged.now in
     let judged = c.design.ensures.judged in
     let m = model_here d judged c.args.model c.requires.reached in
-    formals_once d judged c.args.model c.requires.reached m.0 m.1 c.args.i c.args.inst.now c.requires.inst
+    formals_once d judged c.args.model c.requires.reached m.0 m.1 c.args.i c.args.numbered.inst.now c.requires.inst
 
 pub returns-in-Some : goal.returns-in-Some
 returns-in-Some c =
@@ -25,6 +25,6 @@ returns-in-Some c =
     IfOk-weaker c.find_places.result _ _
     (λ places same.
     same
-    ∙ ap (λ (ns : List (List ℕ)). map (λ formal. net_place d k (actual_for c.args.inst.now formal)) ns) c.data_inputs.ensures
-    ∙ sym (bound_in d k c.args.i c.in-Some.sub c.args.inst.now c.requires.inst number))
+    ∙ ap (λ (ns : List (List ℕ)). map (λ formal. net_place d k (actual_for c.args.numbered.inst.now formal)) ns) c.data_inputs.ensures
+    ∙ sym (bound_in d k c.args.i c.in-Some.sub c.args.numbered.inst.now c.requires.inst number))
     c.find_places.ensures

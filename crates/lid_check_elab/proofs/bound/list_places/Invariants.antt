@@ -6,5 +6,5 @@ use Rattle.lid_check_elab.proofs.bound.list_places.Given as goal
 
 abbrev pub invariant-loop-formal : goal.invariant-loop-formal
 invariant-loop-formal l =
-    l.places.items ++ map (λ formal. net_place l.judged l.model (actual_for l.inst formal)) (texts (drop l.formal-index l.formals))
-    ≡ map (λ formal. net_place l.judged l.model (actual_for l.inst formal)) (texts l.formals)
+    l.places.items ++ map (λ formal. net_place l.judged l.model (actual_for l.numbered.inst.now formal)) (texts (drop l.formal-index l.formals))
+    ≡ map (λ formal. net_place l.judged l.model (actual_for l.numbered.inst.now formal)) (texts l.formals)

@@ -18,9 +18,9 @@ returns-in-Some c =
     let k = c.args.model in
     let number : instance_number d c.args.i k ≡ Some c.in-Some.sub = sym c.model_of.ensures ∙ c.in-Some.is in
     let below = model_below d c.design.ensures.judged c.in-Some.sub (sub_reached d k c.requires.reached c.args.i c.in-Some.sub number) in
-    let whole = inst_outputs d k c.args.i c.in-Some.sub c.args.inst.now c.requires.inst number below c.args.outputs.now c.requires.outputs c.index-outputs-sub.result c.index-outputs-sub.is in
-    let binds = ap (λ (bs : List Bind). flat_map (output_driver c.index-outputs-sub.result c.args.i) bs) c.as_slice.ensures in
+    let whole = inst_outputs d k c.args.i c.in-Some.sub c.args.numbered.inst.now c.requires.inst number below c.args.outputs.now c.requires.outputs c.index-outputs-sub.result c.index-outputs-sub.is in
+    let binds = ap (λ (bs : List Bind). flat_map (output_driver c.index-outputs-sub.result c.args.i) bs) c.as_slice-binds.ensures in
     subst (λ (ps : List NetLocal). OnOk c.push_binds.result (Grows d k ps c.args.into.now c.push_binds.new.into)) (binds ∙ whole) c.push_binds.ensures
 
 pub returns-in-None : goal.returns-in-None
-returns-in-None c = no_number c.args.judged.now c.design.ensures.judged c.args.model c.args.i c.args.inst.now c.requires.reached c.requires.inst (sym c.model_of.ensures ∙ c.in-None.is)
+returns-in-None c = no_number c.args.judged.now c.design.ensures.judged c.args.model c.args.i c.args.numbered.inst.now c.requires.reached c.requires.inst (sym c.model_of.ensures ∙ c.in-None.is)

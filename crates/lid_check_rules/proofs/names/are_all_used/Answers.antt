@@ -13,7 +13,7 @@ loop-i-preserved c =
     let names = c.args.names.now in
     let i = c.loop-i.i in
     let within : i < length names = omega arith in
-    let p = λ (name : List ℕ). not (is_misused c.args.ports.now c.args.nets.now.table name) in
+    let p = λ (name : List ℕ). not (is_misused c.args.ports.now c.args.nets.now.table.now name) in
     let used = λ (name : List ℕ) (here : slice_get names i ≡ Some name). sym (ap not (c.is_used_at.ensures c.if-not-is_used_at.false name here)) in
     sym (all_from p names i true within used) ∙ c.loop-i.invariant
 
@@ -22,5 +22,5 @@ returns c h =
     let names = c.args.names.now in
     let i = c.loop-i.i in
     let past : length names ≤ i = omega arith in
-    let p = λ (name : List ℕ). not (is_misused c.args.ports.now c.args.nets.now.table name) in
+    let p = λ (name : List ℕ). not (is_misused c.args.ports.now c.args.nets.now.table.now name) in
     sym c.loop-i.invariant ∙ ap (list_all p) (drop_all i names past)

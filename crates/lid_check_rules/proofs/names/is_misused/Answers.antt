@@ -10,7 +10,7 @@ use Rattle.lid_check_rules.proofs.names.is_misused.Goals as goal
 pub returns-else-is_clock : goal.returns-else-is_clock
 returns-else-is_clock c =
     let d = c.args.ports.now in
-    let m = c.args.nets.now.table in
+    let m = c.args.nets.now.table.now in
     let name = c.args.name.now in
     let clock = c.is_clock.ensures ∙ ap (λ (e : Design). is_clock_of e c.args.k name) c.survey.ensures ∙ clock_here d c.args.k m name c.requires.nets.here in
     c.if-is_clock.false ∙ misused_by d m name false (is_among name m.inputs || is_among name m.clocks) (is_among name (read_names d m)) (is_among name (inner_drivers d m)) (sym c.if-is_clock.false ∙ clock) refl refl refl
@@ -18,7 +18,7 @@ returns-else-is_clock c =
 pub returns-then-not-given : goal.returns-then-not-given
 returns-then-not-given c =
     let d = c.args.ports.now in
-    let m = c.args.nets.now.table in
+    let m = c.args.nets.now.table.now in
     let name = c.args.name.now in
     let clock = c.is_clock.ensures ∙ ap (λ (e : Design). is_clock_of e c.args.k name) c.survey.ensures ∙ clock_here d c.args.k m name c.requires.nets.here in
     let given = c.is_given-given.ensures ∙ given_here d c.args.k m name c.requires.nets.here in
@@ -27,7 +27,7 @@ returns-then-not-given c =
 pub returns-then-read : goal.returns-then-read
 returns-then-read c =
     let d = c.args.ports.now in
-    let m = c.args.nets.now.table in
+    let m = c.args.nets.now.table.now in
     let name = c.args.name.now in
     let clock = c.is_clock.ensures ∙ ap (λ (e : Design). is_clock_of e c.args.k name) c.survey.ensures ∙ clock_here d c.args.k m name c.requires.nets.here in
     let given = c.is_given-given.ensures ∙ given_here d c.args.k m name c.requires.nets.here in
@@ -37,7 +37,7 @@ returns-then-read c =
 pub returns-else-read : goal.returns-else-read
 returns-else-read c =
     let d = c.args.ports.now in
-    let m = c.args.nets.now.table in
+    let m = c.args.nets.now.table.now in
     let name = c.args.name.now in
     let clock = c.is_clock.ensures ∙ ap (λ (e : Design). is_clock_of e c.args.k name) c.survey.ensures ∙ clock_here d c.args.k m name c.requires.nets.here in
     let given = c.is_given-given.ensures ∙ given_here d c.args.k m name c.requires.nets.here in

@@ -11,7 +11,7 @@ pub returns-in-Some : goal.returns-in-Some
 returns-in-Some c name here =
     let own = c.in-Some.name.now in
     let read : Some own ≡ Some name = sym (ap (option_map (λ (r : Bor (List ℕ)). r.now)) c.in-Some.is) ∙ c.name_at.ensures ∙ here in
-    c.is_misused.ensures ∙ ap (is_misused c.args.ports.now c.args.nets.now.table) (same_Some own name read)
+    c.is_misused.ensures ∙ ap (is_misused c.args.ports.now c.args.nets.now.table.now) (same_Some own name read)
 
 pub returns-in-None : goal.returns-in-None
 returns-in-None c name here =

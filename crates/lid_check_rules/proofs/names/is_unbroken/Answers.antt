@@ -11,4 +11,4 @@ returns-in-Undriven c h name = absurd (let f : false ≡ true = h in cc)
 
 pub returns-in-ClockUse : goal.returns-in-ClockUse
 returns-in-ClockUse c used name =
-    subst (λ (rule : NameRule). is_faulty rule c.args.ports.now c.args.nets.now.table name ≡ false) (sym c.in-ClockUse.is) (c.are_clocks_used.ensures used name)
+    subst (λ (rule : NameRule). is_faulty rule c.args.ports.now c.args.nets.now.table.now name ≡ false) (sym c.in-ClockUse.is) (c.are_clocks_used.ensures used name)

@@ -4,7 +4,7 @@ use Rattle.lid_check_rules.proofs.Sets.{not_true, found_there}
 use Rattle.lid_check_rules.proofs.names.is_used.Goals as goal
 
 pub is_misused-requires-clause-name : goal.is_misused-requires-clause-name
-is_misused-requires-clause-name c = found_there c.args.name.now (names_in c.args.nets.now.table) c.in-Some.number (sym c.number_of.ensures ∙ c.in-Some.is)
+is_misused-requires-clause-name c = found_there c.args.name.now (names_in c.args.nets.now.table.now) c.in-Some.number (sym c.number_of.ensures ∙ c.in-Some.is)
 
 pub returns-in-Some : goal.returns-in-Some
 returns-in-Some c used = sym c.is_misused.ensures ∙ not_true c.is_misused.result used

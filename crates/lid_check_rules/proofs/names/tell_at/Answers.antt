@@ -12,7 +12,7 @@ returns-in-Some c name here =
     ap Some
     (c.tell_name.ensures
     ∙ ap (λ (n : List ℕ). told_name c.args.rule n c.in-Some.name.now) model
-    ∙ ap (told_name c.args.rule c.args.nets.now.table.name) (same_Some c.in-Some.name.now name read))
+    ∙ ap (told_name c.args.rule c.args.nets.now.table.now.name) (same_Some c.in-Some.name.now name read))
 
 pub returns-in-None : goal.returns-in-None
 returns-in-None c name here =

@@ -9,11 +9,11 @@ use Rattle.lid_check_rules.proofs.names.tell_first.Goals as goal
 
 pub returns-then-is_unbroken : goal.returns-then-is_unbroken
 returns-then-is_unbroken c =
-    sym (rule_unbroken c.args.rule c.args.ports.now c.args.nets.now.table (c.is_unbroken.ensures c.if-is_unbroken.true))
+    sym (rule_unbroken c.args.rule c.args.ports.now c.args.nets.now.table.now (c.is_unbroken.ensures c.if-is_unbroken.true))
 
 pub returns-then-is_faulty : goal.returns-then-is_faulty
 returns-then-is_faulty c =
-    let m = c.args.nets.now.table in
+    let m = c.args.nets.now.table.now in
     let names = names_in m in
     let p = is_faulty c.args.rule c.args.ports.now m in
     let i = c.loop-number.number in
@@ -26,7 +26,7 @@ returns-then-is_faulty c =
 
 pub loop-number-preserved : goal.loop-number-preserved
 loop-number-preserved c =
-    let m = c.args.nets.now.table in
+    let m = c.args.nets.now.table.now in
     let names = names_in m in
     let p = is_faulty c.args.rule c.args.ports.now m in
     let i = c.loop-number.number in
@@ -37,7 +37,7 @@ loop-number-preserved c =
 
 pub returns : goal.returns
 returns c =
-    let m = c.args.nets.now.table in
+    let m = c.args.nets.now.table.now in
     let names = names_in m in
     let p = is_faulty c.args.rule c.args.ports.now m in
     let i = c.loop-number.number in

@@ -4,4 +4,4 @@ use Rattle.lid_check_rules.specs.Names.{is_faulty}
 use Rattle.lid_check_rules.proofs.names.tell_first.Given as goal
 
 abbrev pub invariant-loop-number : goal.invariant-loop-number
-invariant-loop-number l = find (is_faulty l.rule l.ports l.nets.table) (drop l.number (names_in l.nets.table)) ≡ find (is_faulty l.rule l.ports l.nets.table) (names_in l.nets.table)
+invariant-loop-number l = find (is_faulty l.rule l.ports l.nets.table.now) (drop l.number (names_in l.nets.table.now)) ≡ find (is_faulty l.rule l.ports l.nets.table.now) (names_in l.nets.table.now)

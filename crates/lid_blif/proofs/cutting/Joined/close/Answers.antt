@@ -1,14 +1,18 @@
 use Rattle.std.proofs.Common.{◌+◌, ◌-◌, List, arith, ◌∙◌, ap}
-use Rattle.lid_blif.specs.declared.cutting.Span.{Span}
+use Rattle.lid_blif.specs.declared.cutting.LineSize.{LineSize}
+use Rattle.lid_blif.specs.Places.{words_at}
 use Rattle.lid_blif.specs.Joins.{lines_cut, words_counted}
-use Rattle.lid_blif.proofs.Spans.{closed_some, words_counted_span}
+use Rattle.lid_blif.proofs.Places.{words_length}
+use Rattle.lid_blif.proofs.Sizes.{closed_some, words_counted_size}
 use Rattle.lid_blif.proofs.cutting.Joined.close.Goals as goal
 
 pub returns-clause-done : goal.returns-clause-done
 returns-clause-done c =
     let joined = c.args.self.now in
-    ap (λ (spans : List Span). lines_cut spans joined.words.items) c.in_ok-push.ensures.items
-    ∙ closed_some joined.spans.items joined.words.items joined.number joined.start (c.len.result - joined.start) c.requires.start (omega (arith, c.requires.within, c.len.ensures)) (omega (arith, c.if-count-eq0.false))
+    let words = words_at joined.text.now joined.words.items in
+    ap (λ (sizes : List LineSize). lines_cut sizes words) c.in_ok-push.ensures.items
+    ∙ closed_some joined.sizes.items words joined.number joined.start (c.len.result - joined.start) c.requires.joined.start
+    (omega (arith, c.requires.joined.within, c.len.ensures, words_length joined.text.now joined.words.items)) (omega (arith, c.if-count-eq0.false))
 
 pub returns-clause-joined : goal.returns-clause-joined
 returns-clause-joined c =
@@ -16,7 +20,7 @@ returns-clause-joined c =
     record {
       start =
           ap words_counted c.in_ok-push.ensures.items
-          ∙ words_counted_span joined.spans.items _
-          ∙ ap (λ n. n + (c.len.result - joined.start)) c.requires.start;
-      within = omega (arith, c.requires.within, c.len.ensures);
+          ∙ words_counted_size joined.sizes.items _
+          ∙ ap (λ n. n + (c.len.result - joined.start)) c.requires.joined.start;
+      within = omega (arith, c.requires.joined.within, c.len.ensures);
     }

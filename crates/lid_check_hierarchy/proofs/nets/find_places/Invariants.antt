@@ -1,0 +1,6 @@
+use Rattle.std.proofs.Common.{◌≡◌, ◌++◌, map, drop}
+use Rattle.lid_check_hierarchy.specs.Nets.{counts_of_false}
+use Rattle.lid_check_hierarchy.proofs.nets.find_places.Given as goal
+
+abbrev pub invariant-loop-row : goal.invariant-loop-row
+invariant-loop-row l = l.places.items ++ map (counts_of_false 0) (drop l.row-index l.marks) ≡ map (counts_of_false 0) l.marks
