@@ -1,5 +1,5 @@
 -- Serves the bodies: desks and sinks before a run has begun.
-use Rattle.std.specs.Prelude.{◌≡◌, ℕ, ◌-◌, List, [], length, Some, slice_get}
+use Rattle.std.specs.Prelude.{◌≡◌, ℕ, ◌-◌, List, length, Some, slice_get}
 use Rattle.std.specs.List.{All}
 use Rattle.lid_system.specs.declared.System.{System}
 use Rattle.lid_system.specs.declared.Node.TheVariants as node

@@ -1,6 +1,6 @@
 //! The part of an actor.
 
-ghost use Rattle.std.specs.Prelude.{◌≡◌, ◌≤◌, length};
+ghost use Rattle.std.specs.Prelude.{◌≡◌};
 ghost use Rattle.lid_shell.specs.Parts.{rows_given};
 
 use lid_base::{Items, Name};
@@ -45,10 +45,13 @@ pub(crate) enum Role<'r> {
 impl Given {
     /// The rows given.
     pub(crate) fn done(&self) -> &[Items<bool>]
-        requires { self.now.count ≤ length self.now.rows.items }
         ensures { result.now ≡ rows_given self.now }
     {
-        &self.rows[..self.count]
+        if self.count < self.rows.len() {
+            &self.rows[..self.count]
+        } else {
+            self.rows.as_slice()
+        }
     }
 
     /// Hands out the rows given.
