@@ -1,8 +1,10 @@
 -- What is left of a text while lines are cut from it.
-use Rattle.std.proofs.Common.{◌-◌, append-nil, ◌≡◌, ℕ, ◌+◌, ◌<◌, ◌≤◌, List, [], ◌∷◌, ◌++◌, length, take, drop, Option, Some, None, refl, ap, ◌∙◌, sym, arith, length-append}
+use Rattle.std.proofs.Common.{subst, ◌-◌, append-nil, ◌≡◌, ℕ, ◌+◌, ◌<◌, ◌≤◌, List, [], ◌∷◌, ◌++◌, length, take, drop, Option, Some, None, refl, ap, ◌∙◌, sym, arith, length-append}
 use Rattle.std.proofs.Math.Seq.{drop-length, take-append_seam}
 use Rattle.std.proofs.lemmas.List.{drop-append-le, drop-drop}
 use Rattle.std.proofs.lemmas.List.Splits.{join_with_byte-slice_split, length-slice_split}
+use Rattle.std.specs.Borrow.{Bor}
+use Rattle.std.specs.Option.{option_copied}
 use Rattle.std.specs.List.{slice_split, join_with_byte}
 use Rattle.lid_base.specs.Lines.{is_newline, line_fault, first_fault}
 use Rattle.lid_base.specs.declared.line.TextFault.{TextFault}
@@ -37,12 +39,13 @@ whole_cut bytes line rest h =
 whole_last : (bytes line : List ℕ) → slice_split is_newline bytes ≡ line ∷ [] → bytes ≡ line
 whole_last bytes line h = sym (join_with_byte-slice_split 10 bytes) ∙ ap (join_with_byte 10) h
 
--- a line that was cut off: where it stands, and what is left behind it
-pub record CutOff (text : List ℕ) (from : ℕ) (bytes line : List ℕ) (after : Option (List ℕ)) : Type 0 where
+-- a line that was cut off what is left: where it stands, and what is left behind it
+pub record CutOff (text : List ℕ) (from : ℕ) (left : Option (List ℕ)) (line : List ℕ) (after : Option (List ℕ)) : Type 0 where
   pub within : from + length line ≤ length text
   pub part : part_of text from (from + length line) ≡ line
-  pub left : IsLeft text (from + length line + 1) after
-  pub work : work_left after ≤ length bytes
+  pub parts : lines_left left ≡ line ∷ lines_left after
+  pub behind : IsLeft text (from + length line + 1) after
+  pub work : work_left after < work_left left
 
 drop_line : (line rest : List ℕ) → drop (length line + 1) (line ++ 10 ∷ rest) ≡ rest
 drop_line line rest =
@@ -55,22 +58,24 @@ line_part text line more from h =
     ∙ ap (take (length line)) h
     ∙ take-append_seam line more
 
-pub cut_off : (text : List ℕ) (from : ℕ) (bytes line : List ℕ) (after : Option (List ℕ)) → Left text from bytes → slice_split is_newline bytes ≡ line ∷ lines_left after → CutOff text from bytes line after
-cut_off text from bytes line None held h =
+cut_some : (text : List ℕ) (from : ℕ) (bytes line : List ℕ) (after : Option (List ℕ)) → Left text from bytes → slice_split is_newline bytes ≡ line ∷ lines_left after → CutOff text from (Some bytes) line after
+cut_some text from bytes line None held h =
     let e : bytes ≡ line = whole_last bytes line h in
     record {
       within = omega (arith, held.within, ap length e);
       part = line_part text line [] from (held.is ∙ e ∙ sym (append-nil line));
-      left = tt;
+      parts = h;
+      behind = tt;
       work = omega arith;
     }
-cut_off text from bytes line (Some rest) held h =
+cut_some text from bytes line (Some rest) held h =
     let e : bytes ≡ line ++ 10 ∷ rest = whole_cut bytes line rest h in
     let long : length bytes ≡ length line + (length rest + 1) = ap length e ∙ length-append line (10 ∷ rest) ∙ (let same : length line + length (10 ∷ rest) ≡ length line + (length rest + 1) = omega arith in same) in
     record {
       within = omega (arith, held.within, long);
       part = line_part text line (10 ∷ rest) from (held.is ∙ e);
-      left = record {
+      parts = h;
+      behind = record {
         within = omega (arith, held.within, long);
         is =
             ap (λ n. drop n text) (let same : from + length line + 1 ≡ from + (length line + 1) = omega arith in same)
@@ -80,6 +85,11 @@ cut_off text from bytes line (Some rest) held h =
       };
       work = omega (arith, long);
     }
+
+pub cut_off : (text : List ℕ) (from : ℕ) (left : Option (Bor (List ℕ))) (bytes : Bor (List ℕ)) (line : List ℕ) (after : Option (List ℕ)) → left ≡ Some bytes → IsLeft text from (option_copied left) → slice_split is_newline bytes.now ≡ line ∷ lines_left after → CutOff text from (option_copied left) line after
+cut_off text from left bytes line after is held h =
+    subst (λ (o : Option (Bor (List ℕ))). CutOff text from (option_copied o) line after) (sym is)
+    (cut_some text from bytes.now line after (subst (λ (o : Option (Bor (List ℕ))). IsLeft text from (option_copied o)) is held) h)
 
 -- the first fault of lines whose first has one, or has none
 pub fault_first : (longest : ℕ) (p : ℕ × List ℕ) (ps : List (ℕ × List ℕ)) (fault : TextFault) → line_fault longest p ≡ Some fault → first_fault longest (p ∷ ps) ≡ Some fault

@@ -24,12 +24,6 @@ part_left text from to n h =
     ∙ drop-take n (to - (from + n)) bytes
     ∙ ap (take (to - (from + n))) (drop-drop n from text)
 
--- the first bytes of a part
-pub part_front : (text : List ℕ) (from to n : ℕ) → from + n ≤ to → take n (part_of text from to) ≡ part_of text from (from + n)
-part_front text from to n h =
-    take-take n (to - from) (drop from text) (omega arith)
-    ∙ ap (λ m. take m (drop from text)) (let e : n ≡ from + n - from = omega arith in e)
-
 -- a part of a part
 pub part_of_part : (text : List ℕ) (from to start end : ℕ) → start ≤ end → from + end ≤ to → part_of (part_of text from to) start end ≡ part_of text (from + start) (from + end)
 part_of_part text from to start end le h =

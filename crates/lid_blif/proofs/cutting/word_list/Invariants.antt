@@ -14,7 +14,7 @@ invariant-loop-left l = record {
   text : l.joined.text.now ≡ l.bytes;
   fault : first_fault l.longest (enumerate_from l.number (lines_left (option_copied l.left))) ≡ text_fault l.longest l.bytes;
   low : l.number + work_left (option_copied l.left) ≤ length l.bytes + 2;
-  place : IsLeft l.bytes l.from (option_copied l.left);
+  place : IsLeft l.joined.text.now l.from (option_copied l.left);
   few : length l.joined.words.items ≤ l.from;
   short : l.from ≤ length l.bytes + 1;
 }
