@@ -8,13 +8,13 @@ use Rattle.std.specs.List.{slice_split, list_any}
 use Rattle.lid_base.specs.Lines.{is_separator, is_word, ends_in_mark, content_of, trimmed, without_mark, words_in, words_of}
 use Rattle.lid_base.proofs.Lists.{filter_le}
 use Rattle.lid_blif.specs.declared.line.Word.{Word}
-use Rattle.lid_blif.specs.Places.{bytes_between, placed_word, placed_words}
+use Rattle.lid_blif.specs.Places.{bytes_between, bytes_of_word, bytes_of_words}
 
-pub placed_words_front : (text : List ℕ) (words : List Word) (count : ℕ) → placed_words text (take count words) ≡ take count (placed_words text words)
-placed_words_front text words count = sym (take-map (placed_word text) count words)
+pub bytes_of_front : (text : List ℕ) (words : List Word) (count : ℕ) → bytes_of_words text (take count words) ≡ take count (bytes_of_words text words)
+bytes_of_front text words count = sym (take-map (bytes_of_word text) count words)
 
-pub placed_words_back : (text : List ℕ) (words : List Word) (count : ℕ) → placed_words text (drop count words) ≡ drop count (placed_words text words)
-placed_words_back text words count = sym (drop-map (placed_word text) count words)
+pub bytes_of_back : (text : List ℕ) (words : List Word) (count : ℕ) → bytes_of_words text (drop count words) ≡ drop count (bytes_of_words text words)
+bytes_of_back text words count = sym (drop-map (bytes_of_word text) count words)
 
 -- what is left of a part
 part_left : (text : List ℕ) (from to n : ℕ) → from + n ≤ to → drop n (bytes_between text from to) ≡ bytes_between text (from + n) to
@@ -104,20 +104,20 @@ words_unmarked line kept e unmarked =
     ap words_in (kept_front line kept e ∙ sym (cond-false (ends_in_mark kept) (take (length kept - 1) kept) kept unmarked) ∙ ap without_mark e)
 
 -- words that were pushed
-pub words_length : (text : List ℕ) (words : List Word) → length (placed_words text words) ≡ length words
-words_length text words = length-map words (placed_word text)
+pub words_length : (text : List ℕ) (words : List Word) → length (bytes_of_words text words) ≡ length words
+words_length text words = length-map words (bytes_of_word text)
 
-pub grown_length : (text : List ℕ) (old new : List Word) (more : List (List ℕ)) → placed_words text new ≡ placed_words text old ++ more → length new ≡ length old + length more
-grown_length text old new more h = omega (arith, words_length text old, words_length text new, ap length h, length-append (placed_words text old) more)
+pub grown_length : (text : List ℕ) (old new : List Word) (more : List (List ℕ)) → bytes_of_words text new ≡ bytes_of_words text old ++ more → length new ≡ length old + length more
+grown_length text old new more h = omega (arith, words_length text old, words_length text new, ap length h, length-append (bytes_of_words text old) more)
 
 pub pushed : (text : List ℕ) (old new : List Word) (start end : ℕ) (left : List (List ℕ)) → end ≤ length text → new ≡ old ++ record { start = start; len = length (bytes_between text start end) } ∷ []
-    → placed_words text new ++ left ≡ placed_words text old ++ bytes_between text start end ∷ left
+    → bytes_of_words text new ++ left ≡ bytes_of_words text old ++ bytes_between text start end ∷ left
 pushed text old new start end left within h =
     let word : Word = record { start = start; len = length (bytes_between text start end) } in
-    ap (λ (words : List Word). placed_words text words ++ left) h
-    ∙ ap (λ (words : List (List ℕ)). words ++ left) (map-append (placed_word text) old (word ∷ []))
-    ∙ append_assoc (placed_words text old) (placed_word text word ∷ []) left
-    ∙ ap (λ (bytes : List ℕ). placed_words text old ++ bytes ∷ left) (word_of_part text start end within)
+    ap (λ (words : List Word). bytes_of_words text words ++ left) h
+    ∙ ap (λ (words : List (List ℕ)). words ++ left) (map-append (bytes_of_word text) old (word ∷ []))
+    ∙ append_assoc (bytes_of_words text old) (bytes_of_word text word ∷ []) left
+    ∙ ap (λ (bytes : List ℕ). bytes_of_words text old ++ bytes ∷ left) (word_of_part text start end within)
 
 pub any_pushed : (p : List ℕ → Bool) (before : Bool) (word : List ℕ) (left : List (List ℕ)) → ((before || p word) || list_any p left) ≡ (before || list_any p (word ∷ left))
 any_pushed p true word left = refl
@@ -145,6 +145,6 @@ words_of_le line =
     omega (arith, words_in_le (without_mark kept), without_mark_le kept, kept_le line kept refl)
 
 -- the words of the lines so far are at most as many as the bytes gone over
-pub words_few : (text : List ℕ) (old new : List Word) (from to : ℕ) → from ≤ to → to ≤ length text → length old ≤ from → placed_words text new ≡ placed_words text old ++ words_of (bytes_between text from to) → length new ≤ to + 1
+pub words_few : (text : List ℕ) (old new : List Word) (from to : ℕ) → from ≤ to → to ≤ length text → length old ≤ from → bytes_of_words text new ≡ bytes_of_words text old ++ words_of (bytes_between text from to) → length new ≤ to + 1
 words_few text old new from to le within few h =
     omega (arith, grown_length text old new (words_of (bytes_between text from to)) h, words_of_le (bytes_between text from to), part_length text from to within)

@@ -7,9 +7,9 @@ abbrev pub bytes_between : List ℕ → ℕ → ℕ → List ℕ
 bytes_between text from to = take (to - from) (drop from text)
 
 -- the bytes of a word that lies in a text
-abbrev pub placed_word : List ℕ → Word → List ℕ
-placed_word text word = take word.len (drop word.start text)
+abbrev pub bytes_of_word : List ℕ → Word → List ℕ
+bytes_of_word text word = take word.len (drop word.start text)
 
 -- the bytes of words that lie in a text
-abbrev pub placed_words : List ℕ → List Word → List (List ℕ)
-placed_words text words = map (placed_word text) words
+abbrev pub bytes_of_words : List ℕ → List Word → List (List ℕ)
+bytes_of_words text words = map (bytes_of_word text) words

@@ -3,7 +3,7 @@
 ghost use Rattle.std.specs.Prelude.{◌≡◌, ◌+◌, ◌<◌, ◌≤◌, ◌⊎◌, ◌∷◌, [], ◌++◌, length, not, take, drop, position, IfOk, OnOk, IfErr, IfSome, MatchOption, Some, None};
 ghost use Rattle.lid_base.specs.Lines.{is_separator, content_of, goes_on, words_in, words_of, line_fault};
 ghost use Rattle.lid_blif.specs.Joins.{has_marked_word, has_longer_word};
-ghost use Rattle.lid_blif.specs.Places.{bytes_between, placed_words};
+ghost use Rattle.lid_blif.specs.Places.{bytes_between, bytes_of_words};
 
 use crate::line::Word;
 use lid_base::{TextFault, content_of, ends_in_mark, has_stray_byte, trimmed};
@@ -108,7 +108,7 @@ fn push_words(
 ) -> Result<Seen, AllocError>
     requires within { (from ≤ to) × (to ≤ length text.now) }
     requires few { length text.now ≤ 67108864 }
-    ensures words { OnOk result (placed_words text.now words.new.items ≡ placed_words text.now words.old.items ++ words_in (bytes_between text.now from to)) }
+    ensures words { OnOk result (bytes_of_words text.now words.new.items ≡ bytes_of_words text.now words.old.items ++ words_in (bytes_between text.now from to)) }
     ensures marked { IfOk result (λ seen. seen.marked ≡ has_marked_word (words_in (bytes_between text.now from to))) }
     ensures long { IfOk result (λ seen. seen.long ≡ has_longer_word longest (words_in (bytes_between text.now from to))) }
 {
@@ -145,7 +145,7 @@ pub fn take_words(
 ) -> Result<bool, TextFault>
     requires within { (from ≤ to) × (to ≤ length text.now) }
     requires few { length text.now ≤ 67108864 }
-    ensures words { OnOk result (placed_words text.now words.new.items ≡ placed_words text.now words.old.items ++ words_of (bytes_between text.now from to)) }
+    ensures words { OnOk result (bytes_of_words text.now words.new.items ≡ bytes_of_words text.now words.old.items ++ words_of (bytes_between text.now from to)) }
     ensures goes_on { IfOk result (λ more. more ≡ goes_on (bytes_between text.now from to)) }
     ensures ok { OnOk result (line_fault longest (number, bytes_between text.now from to) ≡ None) }
     ensures err { IfErr result (λ e. (e ≡ TextFault.Memory) ⊎ (line_fault longest (number, bytes_between text.now from to) ≡ Some e)) }

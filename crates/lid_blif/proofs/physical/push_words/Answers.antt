@@ -1,7 +1,7 @@
 use Rattle.std.proofs.Common.{ℕ, ◌+◌, ◌||◌, ◌++◌, Bool, List, length, nat_lt, arith, ap, sym, ◌∙◌, ◌≤◌}
 use Rattle.lid_base.specs.Lines.{ends_in_mark, words_in}
 use Rattle.lid_blif.specs.Joins.{has_marked_word, has_longer_word}
-use Rattle.lid_blif.specs.Places.{bytes_between, placed_words}
+use Rattle.lid_blif.specs.Places.{bytes_between, bytes_of_words}
 use Rattle.lid_blif.proofs.Places.{part_length, pushed, any_pushed, first_of_part}
 use Rattle.lid_blif.proofs.physical.push_words.Goals as goal
 
@@ -24,7 +24,7 @@ loop-bounds-preserved c =
       within = within;
       words =
           pushed text c.loop-bounds.words.items _ (at + start) (at + end) left (omega (arith, within, bounds.1, c.requires.within.1)) c.in_ok-push.ensures.items
-          ∙ ap (λ (ws : List (List ℕ)). placed_words text c.loop-bounds.words.items ++ ws) (sym cut)
+          ∙ ap (λ (ws : List (List ℕ)). bytes_of_words text c.loop-bounds.words.items ++ ws) (sym cut)
           ∙ held.words;
       marked =
           ap (λ (b : Bool). (c.loop-bounds.marked || b) || has_marked_word left) c.ends_in_mark-marked.ensures
