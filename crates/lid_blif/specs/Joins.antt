@@ -4,7 +4,7 @@ use Rattle.std.specs.List.{list_any}
 use Rattle.lid_base.specs.Lines.{ends_in_mark}
 use Rattle.lid_base.specs.declared.line.Line.{Line}
 use Rattle.lid_base.specs.Joins.{open_lines}
-use Rattle.lid_blif.specs.Places.{words_at}
+use Rattle.lid_blif.specs.Places.{bytes_of_words}
 use Rattle.lid_blif.specs.declared.cutting.LineSize.{LineSize}
 use Rattle.lid_blif.specs.declared.cutting.Joined.{Joined}
 
@@ -27,10 +27,10 @@ words_counted (size ∷ sizes) = size.count + words_counted sizes
 
 -- the lines that are done, and the words of the open line
 abbrev pub done_lines : Joined → List Line
-done_lines joined = lines_cut joined.sizes.items (words_at joined.text.now joined.words.items)
+done_lines joined = lines_cut joined.sizes.items (bytes_of_words joined.text.now joined.words.items)
 
 abbrev pub open_words : Joined → List (List ℕ)
-open_words joined = drop joined.start (words_at joined.text.now joined.words.items)
+open_words joined = drop joined.start (bytes_of_words joined.text.now joined.words.items)
 
 -- the open line begins behind the words of those that are done
 pub record OpensBehind (joined : Joined) : Type 0 where

@@ -3,7 +3,7 @@
 ghost use Rattle.std.specs.Prelude.{◌≡◌, ℕ, ◌+◌, ◌-◌, ◌<◌, ◌≤◌, ◌⊎◌, List, [], ◌∷◌, ◌++◌, length, IfOk, OnOk, IfErr, Some, None};
 ghost use Rattle.lid_base.specs.Lines.{logical_lines, line_fault, text_fault};
 ghost use Rattle.lid_base.specs.Joins.{closed_lines, open_lines};
-ghost use Rattle.lid_blif.specs.Places.{part_of};
+ghost use Rattle.lid_blif.specs.Places.{bytes_between};
 ghost use Rattle.lid_blif.specs.Joins.{lines_cut, words_counted, done_lines, open_words, all_lines, OpensBehind};
 
 use crate::line::{TextLine, TextWords, Word};
@@ -85,12 +85,12 @@ impl<'t> Joined<'t> {
         requires within { (from ≤ to) × (to ≤ length self.now.text.now) }
         requires short { length self.now.text.now ≤ 67108864 }
         requires few { length self.now.words.items ≤ from }
-        ensures lines { OnOk result ((ps : List (ℕ × List ℕ)) → all_lines self.new ps ≡ all_lines self.old ((number, part_of self.old.text.now from to) ∷ ps)) }
+        ensures lines { OnOk result ((ps : List (ℕ × List ℕ)) → all_lines self.new ps ≡ all_lines self.old ((number, bytes_between self.old.text.now from to) ∷ ps)) }
         ensures joined { OnOk result (OpensBehind self.new) }
         ensures text { self.new.text.now ≡ self.old.text.now }
         ensures few { OnOk result (length self.new.words.items ≤ to + 1) }
-        ensures ok { OnOk result (line_fault longest (number, part_of self.old.text.now from to) ≡ None) }
-        ensures err { IfErr result (λ e. (e ≡ TextFault.Memory) ⊎ (line_fault longest (number, part_of self.old.text.now from to) ≡ Some e)) }
+        ensures ok { OnOk result (line_fault longest (number, bytes_between self.old.text.now from to) ≡ None) }
+        ensures err { IfErr result (λ e. (e ≡ TextFault.Memory) ⊎ (line_fault longest (number, bytes_between self.old.text.now from to) ≡ Some e)) }
     {
         match take_words(number, self.text, from, to, longest, &mut self.words) {
             Err(fault) => Err(fault),

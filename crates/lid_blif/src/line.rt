@@ -4,7 +4,7 @@ ghost use Rattle.std.specs.Prelude.{◌≡◌, ◌++◌, length, take, drop, IfO
 ghost use Rattle.lid_base.specs.declared.line.Line.{Line};
 ghost use Rattle.lid_base.specs.Words.{word_at, last_word};
 ghost use Rattle.lid_blif.specs.Words.{keyword_of};
-ghost use Rattle.lid_blif.specs.Places.{word_in, words_at};
+ghost use Rattle.lid_blif.specs.Places.{bytes_of_word, bytes_of_words};
 
 use crate::keyword::Keyword;
 use crate::words::named;
@@ -42,8 +42,8 @@ fn back<T>(items: &[T], count: usize) -> &[T]
 }
 
 /// The bytes of a word of this text.
-fn word_in(text: &[u8], word: Word) -> &[u8]
-    ensures { result.now ≡ word_in text.now word }
+fn bytes_of_word(text: &[u8], word: Word) -> &[u8]
+    ensures { result.now ≡ bytes_of_word text.now word }
 {
     front(back(text, word.start as usize), word.len as usize)
 }
@@ -57,11 +57,11 @@ pub struct Words<'w> {
 
 impl<'w> Model for Words<'w> {
     ghost use Rattle.std.specs.Prelude.{ℕ, List};
-    ghost use Rattle.lid_blif.specs.Places.{words_at};
+    ghost use Rattle.lid_blif.specs.Places.{bytes_of_words};
 
     ghost Value = { List (List ℕ) };
 
-    ghost view = { λ s. words_at s.text.now s.words.now };
+    ghost view = { λ s. bytes_of_words s.text.now s.words.now };
 }
 
 impl<'w> Words<'w> {
@@ -82,17 +82,17 @@ pub struct TextWords<'t> {
 
 impl<'t> Model for TextWords<'t> {
     ghost use Rattle.std.specs.Prelude.{ℕ, List};
-    ghost use Rattle.lid_blif.specs.Places.{words_at};
+    ghost use Rattle.lid_blif.specs.Places.{bytes_of_words};
 
     ghost Value = { List (List ℕ) };
 
-    ghost view = { λ s. words_at s.text.now s.words.items };
+    ghost view = { λ s. bytes_of_words s.text.now s.words.items };
 }
 
 impl<'t> TextWords<'t> {
     /// The words that lie at these places.
     pub fn new(text: &'t [u8], words: Vec<Word>) -> TextWords<'t>
-        ensures { result ≡ words_at text.now words.items }
+        ensures { result ≡ bytes_of_words text.now words.items }
     {
         TextWords { text, words }
     }
@@ -176,7 +176,7 @@ pub fn word_at<'w>(words: &Words<'w>, at: usize) -> &'w [u8]
     ensures { result.now ≡ word_at words.now at }
 {
     if at < words.words.len() {
-        word_in(words.text, words.words[at])
+        bytes_of_word(words.text, words.words[at])
     } else {
         &[]
     }

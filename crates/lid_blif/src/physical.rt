@@ -3,7 +3,7 @@
 ghost use Rattle.std.specs.Prelude.{◌≡◌, ◌+◌, ◌<◌, ◌≤◌, ◌⊎◌, ◌∷◌, [], ◌++◌, length, not, take, drop, position, IfOk, OnOk, IfErr, IfSome, MatchOption, Some, None};
 ghost use Rattle.lid_base.specs.Lines.{is_separator, content_of, goes_on, words_in, words_of, line_fault};
 ghost use Rattle.lid_blif.specs.Joins.{has_marked_word, has_longer_word};
-ghost use Rattle.lid_blif.specs.Places.{part_of, words_at};
+ghost use Rattle.lid_blif.specs.Places.{bytes_between, bytes_of_words};
 
 use crate::line::Word;
 use lid_base::{TextFault, content_of, ends_in_mark, has_stray_byte, trimmed};
@@ -61,26 +61,26 @@ fn find_separator(bytes: &[u8]) -> Option<usize>
 
 /// Where a word begins, where it has ended, and where the bytes after it and its separator begin.
 #[derive(Clone, Copy)]
-struct Bounds {
+struct WordBounds {
     start: usize,
     end: usize,
     next: usize,
 }
 
 /// The bounds of the first word. `None` is no word.
-fn first_word(bytes: &[u8]) -> Option<Bounds>
-    ensures words { MatchOption result (words_in bytes.now ≡ []) (λ word. words_in bytes.now ≡ part_of bytes.now word.start word.end ∷ words_in (drop word.next bytes.now)) }
+fn first_word(bytes: &[u8]) -> Option<WordBounds>
+    ensures words { MatchOption result (words_in bytes.now ≡ []) (λ word. words_in bytes.now ≡ bytes_between bytes.now word.start word.end ∷ words_in (drop word.next bytes.now)) }
     ensures within { IfSome result (λ word. (word.start ≤ word.end) × (word.end ≤ word.next) × (0 < word.next) × (word.next ≤ length bytes.now)) }
 {
     match find_word(bytes) {
         None => None,
         Some(start) => match find_separator(&bytes[start..]) {
-            None => Some(Bounds {
+            None => Some(WordBounds {
                 start,
                 end: bytes.len(),
                 next: bytes.len(),
             }),
-            Some(count) => Some(Bounds {
+            Some(count) => Some(WordBounds {
                 start,
                 end: start + count,
                 next: start + count + 1,
@@ -108,9 +108,9 @@ fn push_words(
 ) -> Result<Seen, AllocError>
     requires within { (from ≤ to) × (to ≤ length text.now) }
     requires few { length text.now ≤ 67108864 }
-    ensures words { OnOk result (words_at text.now words.new.items ≡ words_at text.now words.old.items ++ words_in (part_of text.now from to)) }
-    ensures marked { IfOk result (λ seen. seen.marked ≡ has_marked_word (words_in (part_of text.now from to))) }
-    ensures long { IfOk result (λ seen. seen.long ≡ has_longer_word longest (words_in (part_of text.now from to))) }
+    ensures words { OnOk result (bytes_of_words text.now words.new.items ≡ bytes_of_words text.now words.old.items ++ words_in (bytes_between text.now from to)) }
+    ensures marked { IfOk result (λ seen. seen.marked ≡ has_marked_word (words_in (bytes_between text.now from to))) }
+    ensures long { IfOk result (λ seen. seen.long ≡ has_longer_word longest (words_in (bytes_between text.now from to))) }
 {
     let mut marked = false;
     let mut long = false;
@@ -145,10 +145,10 @@ pub fn take_words(
 ) -> Result<bool, TextFault>
     requires within { (from ≤ to) × (to ≤ length text.now) }
     requires few { length text.now ≤ 67108864 }
-    ensures words { OnOk result (words_at text.now words.new.items ≡ words_at text.now words.old.items ++ words_of (part_of text.now from to)) }
-    ensures goes_on { IfOk result (λ more. more ≡ goes_on (part_of text.now from to)) }
-    ensures ok { OnOk result (line_fault longest (number, part_of text.now from to) ≡ None) }
-    ensures err { IfErr result (λ e. (e ≡ TextFault.Memory) ⊎ (line_fault longest (number, part_of text.now from to) ≡ Some e)) }
+    ensures words { OnOk result (bytes_of_words text.now words.new.items ≡ bytes_of_words text.now words.old.items ++ words_of (bytes_between text.now from to)) }
+    ensures goes_on { IfOk result (λ more. more ≡ goes_on (bytes_between text.now from to)) }
+    ensures ok { OnOk result (line_fault longest (number, bytes_between text.now from to) ≡ None) }
+    ensures err { IfErr result (λ e. (e ≡ TextFault.Memory) ⊎ (line_fault longest (number, bytes_between text.now from to) ≡ Some e)) }
 {
     let parts = line_parts(&text[from..to]);
     let Ok(seen) = push_words(text, from, from + parts.end, longest, words) else {

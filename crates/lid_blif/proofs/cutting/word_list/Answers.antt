@@ -5,7 +5,7 @@ use Rattle.lid_base.specs.Cuts.{lines_left}
 use Rattle.lid_base.specs.Lines.{is_newline, physical_lines, logical_lines, line_fault, first_fault, text_fault}
 use Rattle.lid_base.proofs.Joining.{open_lines_fresh}
 use Rattle.lid_blif.specs.Joins.{all_lines}
-use Rattle.lid_blif.proofs.Cuts.{IsLeft, cut_off, fault_first, fault_later}
+use Rattle.lid_blif.proofs.Cuts.{IsTextLeft, cut_off, fault_first, fault_later}
 use Rattle.lid_blif.proofs.cutting.word_list.Goals as goal
 
 pub loop-left-init : goal.loop-left-init
@@ -62,7 +62,7 @@ loop-left-preserved c =
           ∙ ap (λ (parts : List (List ℕ)). first_fault c.args.longest (enumerate_from number parts)) (sym cut.parts)
           ∙ held.fault;
       low = omega (arith, low, cut.work);
-      place = subst (λ (text : List ℕ). IsLeft text (c.loop-left.from + length line + 1) after) (sym c.add.ensures.text) cut.behind;
+      place = subst (λ (text : List ℕ). IsTextLeft text (c.loop-left.from + length line + 1) after) (sym c.add.ensures.text) cut.behind;
       few = c.in_default-add.ensures.few;
       short = omega (arith, cut.within, ap length held.text);
     }

@@ -4,7 +4,7 @@ use Rattle.std.specs.List.{enumerate_from}
 use Rattle.lid_base.specs.Cuts.{lines_left}
 use Rattle.lid_base.specs.Lines.{logical_lines, first_fault, text_fault}
 use Rattle.lid_blif.specs.Joins.{all_lines, OpensBehind}
-use Rattle.lid_blif.proofs.Cuts.{IsLeft, work_left}
+use Rattle.lid_blif.proofs.Cuts.{IsTextLeft, work_left}
 use Rattle.lid_blif.proofs.cutting.word_list.Given as goal
 
 abbrev pub invariant-loop-left : goal.invariant-loop-left
@@ -14,7 +14,7 @@ invariant-loop-left l = record {
   text : l.joined.text.now ≡ l.bytes;
   fault : first_fault l.longest (enumerate_from l.number (lines_left (option_copied l.left))) ≡ text_fault l.longest l.bytes;
   low : l.number + work_left (option_copied l.left) ≤ length l.bytes + 2;
-  place : IsLeft l.joined.text.now l.from (option_copied l.left);
+  place : IsTextLeft l.joined.text.now l.from (option_copied l.left);
   few : length l.joined.words.items ≤ l.from;
   short : l.from ≤ length l.bytes + 1;
 }

@@ -2,7 +2,7 @@ use Rattle.std.proofs.Common.{◌+◌, subst, ◌≡◌, ℕ, ◌++◌, ◌≤�
 use Rattle.lid_base.specs.Lines.{goes_on}
 use Rattle.lid_base.specs.Joins.{open_lines}
 use Rattle.lid_blif.specs.declared.line.Word.{Word}
-use Rattle.lid_blif.specs.Places.{part_of, words_at}
+use Rattle.lid_blif.specs.Places.{bytes_between, bytes_of_words}
 use Rattle.lid_blif.specs.Joins.{lines_cut}
 use Rattle.lid_blif.proofs.Places.{words_length, words_few}
 use Rattle.lid_blif.proofs.Sizes.{lines_go_on, lines_end}
@@ -12,8 +12,8 @@ pub returns-in-Ok-true-clause-lines : goal.returns-in-Ok-true-clause-lines
 returns-in-Ok-true-clause-lines c =
     λ ps.
     let joined = c.args.self.now in
-    let line = part_of joined.text.now c.args.from c.args.to in
-    let words = words_at joined.text.now joined.words.items in
+    let line = bytes_between joined.text.now c.args.from c.args.to in
+    let words = bytes_of_words joined.text.now joined.words.items in
     let within : joined.start ≤ length words = omega (arith, c.requires.joined.within, words_length joined.text.now joined.words.items) in
     let goes : goes_on line ≡ true = sym c.in-Ok-true.ensures.goes_on ∙ c.in-Ok-true.field-0-test in
     ap (λ (ws : List (List ℕ)). lines_cut joined.sizes.items ws ++ open_lines joined.number (drop joined.start ws) ps) c.in-Ok-true.ensures.words
@@ -23,8 +23,8 @@ pub returns-in-Ok-clause-lines : goal.returns-in-Ok-clause-lines
 returns-in-Ok-clause-lines c =
     λ ps.
     let joined = c.args.self.now in
-    let line = part_of joined.text.now c.args.from c.args.to in
-    let words = words_at joined.text.now joined.words.items in
+    let line = bytes_between joined.text.now c.args.from c.args.to in
+    let words = bytes_of_words joined.text.now joined.words.items in
     let within : joined.start ≤ length words = omega (arith, c.requires.joined.within, words_length joined.text.now joined.words.items) in
     let ends : goes_on line ≡ false = sym c.in-Ok-false.ensures.goes_on ∙ c.in-Ok-false.field-0-test in
     rw (c.in-Ok.ensures.done, c.in-Ok.ensures.number, c.in-Ok.ensures.words, c.in-Ok-false.ensures.words)
