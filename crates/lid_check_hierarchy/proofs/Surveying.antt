@@ -68,8 +68,8 @@ module _ (d : Design) (formed : IsWellFormed d) (order : List ℕ) (ordered : Is
   own_numbers k m reached here =
       let marks = marks_of (names_in m) (get_or clocks k []) in
       let is : get_or numbers k [] ≡ places_of_false 0 marks =
-          ap (λ (rows : List (List ℕ)). get_or rows k []) made.numbered
-          ∙ get_or_from_slice_get (map (places_of_false 0) (clock_marks_of_all d.models clocks)) k (places_of_false 0 marks) [] (get_map (places_of_false 0) (clock_marks_of_all d.models clocks) k marks (marked k m here))
+      ap (λ (rows : List (List ℕ)). get_or rows k []) made.numbered
+      ∙ get_or_from_slice_get (map (places_of_false 0) (clock_marks_of_all d.models clocks)) k (places_of_false 0 marks) [] (get_map (places_of_false 0) (clock_marks_of_all d.models clocks) k marks (marked k m here))
       in
       subst (λ (ns : List (List ℕ)). AreNumbersOf (names_in m) ns (get_or numbers k [])) (nets_without k m reached here)
       (subst (AreNumbersOf (names_in m) (names_outside (get_or clocks k []) (names_in m))) (sym is) (nets_numbered (names_in m) (get_or clocks k [])))

@@ -20,10 +20,7 @@ pub struct NetLists {
 }
 
 /// The names of some models by numbers.
-pub fn find_tables<'d>(
-    alloc: Global,
-    models: &'d [Model],
-) -> Result<Items<Table<'d>>, AllocError>
+pub fn find_tables<'d>(alloc: Global, models: &'d [Model]) -> Result<Items<Table<'d>>, AllocError>
     ensures { IfOk result (λ tables. tables ≡ models.now) }
 {
     let mut tables = Vec::with_capacity(alloc, models.len())?;
@@ -78,11 +75,7 @@ fn mark_clocks(
 }
 
 /// The numbers of those names of a set that are names of a model.
-fn list_numbers(
-    alloc: Global,
-    table: &Table<'_>,
-    set: &NameSet<'_>,
-) -> Result<Vec<u32>, AllocError>
+fn list_numbers(alloc: Global, table: &Table<'_>, set: &NameSet<'_>) -> Result<Vec<u32>, AllocError>
     ensures { IfOk result (λ numbers. numbers.items ≡ numbers_of (names_in table.now) set.now) }
 {
     let mut numbers = Vec::with_capacity(alloc, set.len())?;

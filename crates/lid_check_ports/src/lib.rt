@@ -7,5 +7,5 @@ mod nets;
 mod ports;
 
 pub use formals::{InstRule, find_formal};
-pub use nets::{Drivers, Nets, collect_nets, push_port_drivers};
+pub use nets::{Drivers, Nets, append_ports, collect_nets};
 pub use ports::{Port, Ports};

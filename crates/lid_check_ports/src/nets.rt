@@ -1,6 +1,5 @@
 ghost use Rattle.std.specs.Prelude.{◌≡◌, ◌<◌, ◌^◌, ◌++◌, [], ◌∷◌, ℕ, List, Some, not, if◌then◌else◌, map, filter, flat_map, length, slice_get, IfOk, OnOk};
 ghost use Rattle.lid_design.specs.Models.{IsReached, insts_of, driver_names, inner_drivers, read_names, port_drivers, actual_names, actual_of};
-ghost use Rattle.lid_check_names.specs.Names.{texts};
 ghost use Rattle.lid_check_table.specs.Tables.{names_in, AreNumbersOf, Appends};
 ghost use Rattle.lid_check_table.specs.Marks.{marks_of, again_of};
 ghost use Rattle.lid_check_ports.specs.declared.ports.Port.TheVariants.{Input};
@@ -9,7 +8,6 @@ ghost use Rattle.lid_check_ports.specs.Nets.{AreNets, is_on, actuals_on, nets_on
 
 use crate::ports::{Port, Ports};
 use lid_base::{Items, Name};
-use lid_check_names::push_names;
 use lid_check_table::{MarkTally, Table, mark_names, tally_marks};
 use lid_design::{Bind, Inst, Model};
 use std::alloc::{AllocError, Global};
@@ -152,8 +150,8 @@ fn append_inner(
     append_nets(list, ports, Side::Driven, k, table)
 }
 
-/// Appends what the lists of a model drive: a name of both lists once.
-fn append_ports(
+/// Appends what the lists of a model drive, by the numbers of its names: a name of both lists once.
+pub fn append_ports(
     list: &mut Vec<u32>,
     ports: &Ports<'_>,
     k: u32,
@@ -273,36 +271,4 @@ fn is_on(ports: &Ports<'_>, side: Side, sub: u32, formal: &[u8]) -> bool
         Side::Driven => ports.has(Port::Output, sub, formal),
         Side::Read => ports.has(Port::Input, sub, formal) && !ports.survey().is_clock(sub, formal),
     }
-}
-
-/// Appends what the lists of a model drive: a name of both lists once.
-pub fn push_port_drivers<'d>(
-    list: &mut Vec<&'d [u8]>,
-    ports: &Ports<'d>,
-    k: u32,
-    model: &'d Model,
-) -> Result<(), AllocError>
-    requires { slice_get ports.now.models k ≡ Some model.now }
-    ensures { OnOk result (texts list.new.items ≡ texts list.old.items ++ port_drivers model.now) }
-{
-    push_names(list, model.inputs.as_slice())?;
-    push_others(list, ports, k, model.clocks.as_slice())
-}
-
-/// Appends those of some names that are no inputs of a model.
-fn push_others<'d>(
-    list: &mut Vec<&'d [u8]>,
-    ports: &Ports<'d>,
-    k: u32,
-    names: &'d [Name],
-) -> Result<(), AllocError>
-    ensures { OnOk result (texts list.new.items ≡ texts list.old.items ++ filter (λ net. not (is_in ports.now Input k net)) names.now) }
-{
-    for name in names {
-        let name = name.as_slice();
-        if !ports.has(Port::Input, k, name) {
-            list.push(name)?;
-        }
-    }
-    Ok(())
 }

@@ -123,7 +123,12 @@ fn tell_each<'d>(ports: &Ports<'d>, k: u32, nets: &Nets<'_, 'd>) -> Findings<'d>
 
 /// Tells of the first name of a model at which a condition is broken. The names are told apart by their
 /// numbers, which go by where each comes first.
-fn tell_first<'d>(ports: &Ports<'d>, rule: NameRule, k: u32, nets: &Nets<'_, 'd>) -> Option<Told<'d>>
+fn tell_first<'d>(
+    ports: &Ports<'d>,
+    rule: NameRule,
+    k: u32,
+    nets: &Nets<'_, 'd>,
+) -> Option<Told<'d>>
     requires reached { IsReached ports.now k }
     requires nets { AreNets ports.now k nets.now }
     ensures { shown_of result ≡ name_rule rule ports.now nets.now.table.now }
@@ -176,7 +181,13 @@ fn are_all_used(ports: &Ports<'_>, k: u32, nets: &Nets<'_, '_>, names: &NameSet<
 }
 
 /// Whether the name at a place is used as one may use it.
-fn is_used_at(ports: &Ports<'_>, k: u32, nets: &Nets<'_, '_>, names: &NameSet<'_>, place: usize) -> bool
+fn is_used_at(
+    ports: &Ports<'_>,
+    k: u32,
+    nets: &Nets<'_, '_>,
+    names: &NameSet<'_>,
+    place: usize,
+) -> bool
     requires reached { IsReached ports.now k }
     requires nets { AreNets ports.now k nets.now }
     ensures { result ≡ true → (name : List ℕ) → slice_get names.now place ≡ Some name → is_misused ports.now nets.now.table.now name ≡ false }

@@ -1,8 +1,9 @@
-ghost use Rattle.std.specs.Prelude.{◌≡◌, ◌||◌, not, Some, Option, filter, find, length, option_map, slice_get, IfOk};
+ghost use Rattle.std.specs.Prelude.{◌≡◌, ◌||◌, ◌++◌, [], ◌∷◌, ℕ, List, not, Some, Option, filter, find, length, option_map, slice_get, IfOk, OnOk};
 ghost use Rattle.std.specs.List.{AllByRecursion};
 ghost use denote.Ref.{Bor};
 ghost use Rattle.lid_cover.specs.Cover.{IsCover};
 ghost use Rattle.lid_check_names.specs.Names.{texts};
+ghost use Rattle.lid_check_table.specs.Tables.{names_in, AreNumbersOf};
 ghost use Rattle.lid_design.specs.declared.Cell.{Cell};
 ghost use Rattle.lid_design.specs.WellFormed.{IsWellFormedCell};
 ghost use Rattle.lid_design.specs.Columns.{is_clock};
@@ -13,7 +14,8 @@ ghost use Rattle.lid_check_rules.specs.Told.{shown_of};
 
 use crate::told::Told;
 use lid_check_names::out_of;
-use lid_check_ports::{Ports, push_port_drivers};
+use lid_check_ports::{Ports, append_ports};
+use lid_check_table::Table;
 use lid_cover::{Cover, eval};
 use lid_design::{Cell, Model};
 use std::alloc::{AllocError, Global};
@@ -22,11 +24,9 @@ use std::alloc::{AllocError, Global};
 pub fn find_two_clocks<'d>(alloc: Global, ports: &Ports<'d>) -> Result<Option<Told<'d>>, AllocError>
     ensures { IfOk result (λ told. shown_of told ≡ two_clocks ports.now) }
 {
-    let root = ports.survey().design().root;
-    match ports.model(root) {
-        Some(model) => find_two_clocks_in(alloc, ports, root, model),
-        None => Ok(None),
-    }
+    let survey = ports.survey();
+    let root = survey.design().root;
+    find_two_clocks_in(alloc, ports, root, survey.table_of(root))
 }
 
 /// Tells of the first two clock names of a model, where it has more than one.
@@ -34,35 +34,54 @@ fn find_two_clocks_in<'d>(
     alloc: Global,
     ports: &Ports<'d>,
     k: u32,
-    model: &'d Model,
+    table: &Table<'d>,
 ) -> Result<Option<Told<'d>>, AllocError>
     requires reached { IsReached ports.now k }
-    requires model { slice_get ports.now.models k ≡ Some model.now }
-    ensures { IfOk result (λ told. shown_of told ≡ first_two (filter (is_clock ports.now model.now) (port_drivers model.now))) }
+    requires model { slice_get ports.now.models k ≡ Some table.now }
+    ensures { IfOk result (λ told. shown_of told ≡ first_two (filter (is_clock ports.now table.now) (port_drivers table.now))) }
 {
-    let mut names = Vec::new(alloc);
-    push_port_drivers(&mut names, ports, k, model)?;
-    let clocks = keep_clocks(alloc, ports, k, names.as_slice())?;
+    let mut numbers = Vec::new(alloc);
+    append_ports(&mut numbers, ports, k, table)?;
+    let clocks = keep_clocks(alloc, ports, k, table, numbers.as_slice())?;
     Ok(tell_two(clocks.as_slice()))
 }
 
-/// Those of some names that are clock names of a model.
+/// Those of some names of a model that are clock names, by the numbers of the names.
 fn keep_clocks<'d>(
     alloc: Global,
     ports: &Ports<'d>,
     k: u32,
-    names: &[&'d [u8]],
+    table: &Table<'d>,
+    numbers: &[u32],
 ) -> Result<Vec<&'d [u8]>, AllocError>
     requires { IsReached ports.now k }
-    ensures { IfOk result (λ clocks. texts clocks.items ≡ filter (is_clock_of ports.now k) (texts names.now)) }
+    ensures { IfOk result (λ clocks. (names : List (List ℕ)) → AreNumbersOf (names_in table.now) names numbers.now → texts clocks.items ≡ filter (is_clock_of ports.now k) names) }
 {
     let mut clocks = Vec::new(alloc);
-    for name in names {
-        if ports.survey().is_clock(k, name) {
-            clocks.push(*name)?;
-        }
+    for number in numbers {
+        keep_clock(&mut clocks, ports, k, table, *number)?;
     }
     Ok(clocks)
+}
+
+/// Appends the name of a number, where it is a clock name of a model.
+fn keep_clock<'d>(
+    clocks: &mut Vec<&'d [u8]>,
+    ports: &Ports<'d>,
+    k: u32,
+    table: &Table<'d>,
+    number: u32,
+) -> Result<(), AllocError>
+    requires { IsReached ports.now k }
+    ensures { OnOk result ((name : List ℕ) → slice_get (names_in table.now) number ≡ Some name → texts clocks.new.items ≡ texts clocks.old.items ++ filter (is_clock_of ports.now k) (name ∷ [])) }
+{
+    let Some(name) = table.name_at(number as usize) else {
+        return Ok(());
+    };
+    if ports.survey().is_clock(k, name) {
+        clocks.push(name)?;
+    }
+    Ok(())
 }
 
 /// Tells of the first two of some names, where there are two.
