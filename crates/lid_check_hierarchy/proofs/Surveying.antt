@@ -1,9 +1,9 @@
 -- What a survey is made of.
-use Rattle.std.proofs.Common.{◌≡◌, ℕ, zero, suc, ◌<◌, false, not, List, [], ◌∷◌, length, map, filter, get_or, Option, Some, None, option_map, position, slice_get, refl, sym, ◌∙◌, ap, subst, arith}
+use Rattle.std.proofs.Common.{◌≡◌, ℕ, zero, suc, ◌+◌, ◌<◌, false, not, List, [], ◌∷◌, length, drop, map, filter, get_or, Option, Some, None, option_map, position, slice_get, refl, sym, ◌∙◌, ap, subst, arith}
 use Rattle.std.specs.Option.{option_map_or}
 use Rattle.std.specs.Str.{bytes_eq}
 use Rattle.std.proofs.lemmas.Option.{same_Some, get_or_from_slice_get, slice_get-map}
-use Rattle.std.proofs.lemmas.List.{length-map}
+use Rattle.std.proofs.lemmas.List.{length-map, drop_more}
 use Rattle.lid_base.proofs.Lists.{filter_same}
 use Rattle.lid_base.proofs.Places.{get_map, item_at}
 use Rattle.lid_check_digraph.specs.Graphs.{IsGraph}
@@ -30,16 +30,23 @@ used_is_graph d formed g used = record {
 }
 
 module _ {A : Type 0} (f : Model → List (List ℕ) → A) where
-  made_at : (ms : List Model) (sets : List (List (List ℕ))) (k : ℕ) (m : Model) → length sets ≡ length ms → slice_get ms k ≡ Some m → slice_get (by_clocks f ms sets) k ≡ Some (f m (get_or sets k []))
+  pub made_at : (ms : List Model) (sets : List (List (List ℕ))) (k : ℕ) (m : Model) → length sets ≡ length ms → slice_get ms k ≡ Some m → slice_get (by_clocks f ms sets) k ≡ Some (f m (get_or sets k []))
   made_at [] sets k m same here = absurd (let e : None ≡ Some m = here in cc)
   made_at (n ∷ ms) [] k m same here = absurd (omega arith)
   made_at (n ∷ ms) (set ∷ sets) zero m same here = ap (λ (n : Model). Some (f n set)) (same_Some n m here)
   made_at (n ∷ ms) (set ∷ sets) (suc k) m same here = made_at ms sets k m (omega arith) here
 
-  made_long : (ms : List Model) (sets : List (List (List ℕ))) → length sets ≡ length ms → length (by_clocks f ms sets) ≡ length ms
+  pub made_long : (ms : List Model) (sets : List (List (List ℕ))) → length sets ≡ length ms → length (by_clocks f ms sets) ≡ length ms
   made_long [] sets same = refl
   made_long (m ∷ ms) [] same = absurd (omega arith)
   made_long (m ∷ ms) (set ∷ sets) same = let h = made_long ms sets (omega arith) in omega arith
+
+  -- what is found of the models from one on
+  pub made_next : (ms : List Model) (sets : List (List (List ℕ))) (k : ℕ) (m : Model) → length sets ≡ length ms → k < length ms → m ≡ get_or ms k m → by_clocks f (drop k ms) (drop k sets) ≡ f m (get_or sets k []) ∷ by_clocks f (drop (k + 1) ms) (drop (k + 1) sets)
+  made_next ms sets k m same below is =
+      ap (λ (ns : List Model). by_clocks f ns (drop k sets)) (drop_more ms k m below)
+      ∙ ap (by_clocks f (get_or ms k m ∷ drop (k + 1) ms)) (drop_more sets k [] (omega arith))
+      ∙ ap (λ (n : Model). f n (get_or sets k []) ∷ by_clocks f (drop (k + 1) ms) (drop (k + 1) sets)) (sym is)
 
 -- what is found of the models, by the sets of their clock names
 pub record AreMade (ms : List Model) (clocks : List (List (List ℕ))) (tables : List Model) (numbers : List (List ℕ)) (places : List (List (Option ℕ))) (inputs : List (List (List ℕ))) : Type 0 where

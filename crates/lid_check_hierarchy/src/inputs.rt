@@ -1,10 +1,11 @@
-ghost use Rattle.std.specs.Prelude.{◌≡◌, length, IfOk};
+ghost use Rattle.std.specs.Prelude.{◌≡◌, ◌++◌, [], ◌∷◌, ℕ, List, Some, false, if◌then◌else◌, length, slice_get, slice_index_or, IfOk, OnOk};
 ghost use Rattle.lid_check_names.specs.Names.{texts};
-ghost use Rattle.lid_check_hierarchy.specs.Nets.{inputs_by, inputs_of_all};
+ghost use Rattle.lid_check_table.specs.Tables.{names_in};
+ghost use Rattle.lid_check_table.specs.Marks.{marks_of};
+ghost use Rattle.lid_check_hierarchy.specs.Nets.{clock_marks_of_all, inputs_by, inputs_of_all};
 
-use crate::nets::outside;
 use lid_base::Items;
-use lid_check_names::{NameSet, push_names};
+use lid_check_table::{Table, is_marked};
 use std::alloc::{AllocError, Global};
 use std::marker::Model;
 
@@ -32,32 +33,51 @@ impl<'d> NameList<'d> {
     }
 }
 
-/// The data inputs of some models, by the sets of their clock names.
+/// The data inputs of some models, by marks of their clock names.
 pub fn find_inputs<'d>(
     alloc: Global,
-    models: &'d [lid_design::Model],
-    clocks: &[NameSet<'d>],
+    tables: &[Table<'d>],
+    marks: &[Items<bool>],
 ) -> Result<Items<NameList<'d>>, AllocError>
-    requires { length clocks.now ≡ length models.now }
-    ensures { IfOk result (λ inputs. inputs ≡ inputs_of_all models.now clocks.now) }
+    requires { length marks.now ≡ length tables.now }
+    ensures { IfOk result (λ inputs. (clocks : List (List (List ℕ))) → length clocks ≡ length tables.now → marks.now ≡ clock_marks_of_all tables.now clocks → inputs ≡ inputs_of_all tables.now clocks) }
 {
-    let mut inputs = Vec::with_capacity(alloc, models.len())?;
-    for k in 0..models.len() {
-        inputs.push(inputs_of(alloc, &models[k], &clocks[k])?)?;
+    let mut inputs = Vec::with_capacity(alloc, tables.len())?;
+    for k in 0..tables.len() {
+        inputs.push(inputs_of(alloc, &tables[k], marks[k].as_slice())?)?;
     }
     Ok(Items::from_vec(inputs))
 }
 
-/// The data inputs of a model: its inputs without clock names.
+/// The data inputs of a model: its inputs without clock names, by marks of these.
 fn inputs_of<'d>(
     alloc: Global,
-    model: &'d lid_design::Model,
-    clocks: &NameSet<'d>,
+    table: &Table<'d>,
+    marks: &[bool],
 ) -> Result<NameList<'d>, AllocError>
-    ensures { IfOk result (λ inputs. inputs ≡ inputs_by model.now clocks.now) }
+    ensures { IfOk result (λ inputs. (clocks : List (List ℕ)) → marks.now ≡ marks_of (names_in table.now) clocks → inputs ≡ inputs_by table.now clocks) }
 {
-    let mut all = Vec::new(alloc);
-    push_names(&mut all, model.inputs.as_slice())?;
-    let names = outside(alloc, clocks, all.as_slice())?;
+    let mut names = Vec::new(alloc);
+    for number in table.inputs() {
+        push_unmarked(&mut names, table, marks, *number)?;
+    }
     Ok(NameList { names })
+}
+
+/// Appends the name of a number, unless its mark is set.
+fn push_unmarked<'d>(
+    names: &mut Vec<&'d [u8]>,
+    table: &Table<'d>,
+    marks: &[bool],
+    number: u32,
+) -> Result<(), AllocError>
+    ensures { OnOk result ((name : List ℕ) → slice_get (names_in table.now) number ≡ Some name → texts names.new.items ≡ texts names.old.items ++ (if slice_index_or marks.now number false then [] else name ∷ [])) }
+{
+    if is_marked(marks, number as usize) {
+        return Ok(());
+    }
+    if let Some(name) = table.name_at(number as usize) {
+        names.push(name)?;
+    }
+    Ok(())
 }

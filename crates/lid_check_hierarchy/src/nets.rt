@@ -1,8 +1,7 @@
 ghost use Rattle.std.specs.Prelude.{◌≡◌, ◌+◌, ◌++◌, [], ◌∷◌, ℕ, List, Some, length, map, slice_get, IfOk, OnOk};
-ghost use Rattle.lid_check_names.specs.Names.{texts};
 ghost use Rattle.lid_check_table.specs.Tables.{names_in};
 ghost use Rattle.lid_check_table.specs.Marks.{marks_of};
-ghost use Rattle.lid_check_hierarchy.specs.Nets.{names_outside, numbers_of, places_of_false, counts_of_false, clock_marks_of_all};
+ghost use Rattle.lid_check_hierarchy.specs.Nets.{numbers_of, places_of_false, counts_of_false, clock_marks_of_all};
 
 use lid_base::Items;
 use lid_check_names::NameSet;
@@ -30,24 +29,18 @@ pub fn find_tables<'d>(alloc: Global, models: &'d [Model]) -> Result<Items<Table
     Ok(Items::from_vec(tables))
 }
 
-/// The nets of some models, by the sets of their clock names.
-pub fn find_nets(
-    alloc: Global,
-    tables: &[Table<'_>],
-    clocks: &[NameSet<'_>],
-) -> Result<NetLists, AllocError>
-    requires { length clocks.now ≡ length tables.now }
-    ensures numbers { IfOk result (λ nets. nets.numbers ≡ map (places_of_false 0) (clock_marks_of_all tables.now clocks.now)) }
-    ensures places { IfOk result (λ nets. nets.places ≡ map (counts_of_false 0) (clock_marks_of_all tables.now clocks.now)) }
+/// The nets of some models, by marks of their clock names.
+pub fn find_nets(alloc: Global, marks: &[Items<bool>]) -> Result<NetLists, AllocError>
+    ensures numbers { IfOk result (λ nets. nets.numbers ≡ map (places_of_false 0) marks.now) }
+    ensures places { IfOk result (λ nets. nets.places ≡ map (counts_of_false 0) marks.now) }
 {
-    let marks = find_marks(alloc, tables, clocks)?;
-    let numbers = find_numbers(alloc, marks.as_slice())?;
-    let places = find_places(alloc, marks.as_slice())?;
+    let numbers = find_numbers(alloc, marks)?;
+    let places = find_places(alloc, marks)?;
     Ok(NetLists { numbers, places })
 }
 
 /// For each name of some models whether it is a clock name, by the sets of these.
-fn find_marks(
+pub fn find_marks(
     alloc: Global,
     tables: &[Table<'_>],
     clocks: &[NameSet<'_>],
@@ -166,21 +159,4 @@ fn next_number(number: u32) -> Result<u32, AllocError>
         Some(next) => Ok(next),
         None => Err(AllocError),
     }
-}
-
-/// The names of a list that are in no set.
-pub fn outside<'d>(
-    alloc: Global,
-    set: &NameSet<'d>,
-    names: &[&'d [u8]],
-) -> Result<Vec<&'d [u8]>, AllocError>
-    ensures { IfOk result (λ left. texts left.items ≡ names_outside set.now (texts names.now)) }
-{
-    let mut left = Vec::new(alloc);
-    for name in names {
-        if !set.has(name) {
-            left.push(*name)?;
-        }
-    }
-    Ok(left)
 }

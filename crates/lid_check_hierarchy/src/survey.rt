@@ -15,7 +15,7 @@ ghost use Rattle.lid_check_hierarchy.specs.Surveys.{AreKnown, AreNames, IsModelO
 
 use crate::clocks::find_clocks;
 use crate::inputs::{NameList, find_inputs};
-use crate::nets::{NetLists, find_nets, find_tables};
+use crate::nets::{NetLists, find_marks, find_nets, find_tables};
 use crate::uses::Uses;
 use lid_base::Items;
 use lid_check_digraph::{Digraph, Found, find_order};
@@ -115,8 +115,9 @@ fn find_names<'d>(
     let clocks = find_clocks(alloc, uses, order)?;
     let models = uses.design().models.as_slice();
     let tables = find_tables(alloc, models)?;
-    let nets = find_nets(alloc, tables.as_slice(), clocks.as_slice())?;
-    let inputs = find_inputs(alloc, models, clocks.as_slice())?;
+    let marks = find_marks(alloc, tables.as_slice(), clocks.as_slice())?;
+    let nets = find_nets(alloc, marks.as_slice())?;
+    let inputs = find_inputs(alloc, tables.as_slice(), marks.as_slice())?;
     Ok(ModelNames {
         tables,
         clocks,
