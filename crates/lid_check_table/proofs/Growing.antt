@@ -64,9 +64,6 @@ cell_enters a b c d r s o w cell first control last =
       for_outs = λ done h. last.pushed done (moved a c (reads ++ between) done o from h);
     }
 
-pub no_cells_enter : (names : List (List ℕ)) (r o : List ℕ) → EntersCells names names r r o o []
-no_cells_enter names r o = record { grown = refl; for_reads = (none_enters names r).pushed; for_outs = (none_enters names o).pushed }
-
 cells_then : (a b c : List (List ℕ)) (r s t o w v : List ℕ) (xs ys : List Cell) → EntersCells a b r s o w xs → EntersCells b c s t w v ys → EntersCells a c r t o v (xs ++ ys)
 cells_then a b c r s t o w v xs ys first second = record {
   grown = second.grown ∙ ap (λ (ns : List (List ℕ)). with_names ns (flat_map cell_names ys)) first.grown ∙ sym (with_names_append a (flat_map cell_names xs) (flat_map cell_names ys)) ∙ ap (with_names a) (sym (flat_map-append cell_names xs ys));
