@@ -1,5 +1,5 @@
 -- Lists that the walk over a model numbers, one after the other.
-use Rattle.std.proofs.Common.{◌≡◌, ℕ, ◌+◌, ◌<◌, List, [], ◌∷◌, ◌++◌, length, take, get_or, map, flat_map, Some, slice_get, refl, sym, ◌∙◌, ap, subst, append_assoc}
+use Rattle.std.proofs.Common.{◌≡◌, ℕ, ◌+◌, ◌<◌, List, [], ◌∷◌, ◌++◌, length, take, get_or, map, flat_map, Some, slice_get, sym, ◌∙◌, ap, subst, append_assoc}
 use Rattle.std.proofs.lemmas.List.{append-nil, map-append, take_more, flat_map_more}
 use Rattle.std.proofs.lemmas.Grind.{flat_map-append}
 use Rattle.lid_design.specs.declared.Cell.{Cell}
@@ -9,12 +9,6 @@ use Rattle.lid_check_names.specs.Names.{with_name}
 use Rattle.lid_design.specs.declared.Model.{Model}
 use Rattle.lid_check_table.specs.Tables.{AreNumbersOf, ArePortNumbers, with_names, cell_controls, Enters, EntersCells}
 use Rattle.lid_check_table.proofs.Numbers.{moved, with_names_append}
-
-pub none_enters : (names : List (List ℕ)) (old : List ℕ) → Enters names names old old []
-none_enters names old = record {
-  grown = refl;
-  pushed = λ done h. subst (λ (ns : List (List ℕ)). AreNumbersOf names ns old) (sym (append-nil done)) h;
-}
 
 -- a name, whose number is pushed
 pub one_enters : (names now : List (List ℕ)) (name : List ℕ) (old new : List ℕ) (place : ℕ) → now ≡ with_name names name → slice_get now place ≡ Some name → new ≡ old ++ place ∷ [] → Enters names now old new (name ∷ [])
