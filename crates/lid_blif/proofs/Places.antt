@@ -1,10 +1,10 @@
 -- Parts of a text, and the words that lie in them.
-use Rattle.std.proofs.Common.{cond, ◌≡◌, ℕ, ◌+◌, ◌-◌, ◌≤◌, Bool, true, false, ◌||◌, List, [], ◌∷◌, ◌++◌, length, take, drop, refl, ap, ◌∙◌, sym, arith, length-append, length-drop, length-take, subst, append_assoc}
+use Rattle.std.proofs.Common.{cond, ◌≡◌, ℕ, ◌+◌, ◌-◌, ◌≤◌, true, false, List, [], ◌∷◌, ◌++◌, length, take, drop, refl, ap, ◌∙◌, sym, arith, length-append, length-drop, length-take, subst, append_assoc}
 use Rattle.std.proofs.lemmas.Bool.{cond-true, cond-false}
 use Rattle.std.proofs.lemmas.List.{take-map, drop-map, take-take, take_min, drop-take, drop-drop, drop_all, take_rest, length-take-le, length-map, map-append}
 use Rattle.std.proofs.lemmas.List.Sums.{count_by-le-length}
 use Rattle.std.proofs.lemmas.List.Splits.{length-slice_split}
-use Rattle.std.specs.List.{slice_split, list_any}
+use Rattle.std.specs.List.{slice_split}
 use Rattle.lid_base.specs.Lines.{is_separator, is_word, ends_in_mark, content_of, trimmed, without_mark, words_in, words_of}
 use Rattle.lid_base.proofs.Lists.{filter_le}
 use Rattle.lid_blif.specs.declared.line.Word.{Word}
@@ -118,10 +118,6 @@ pushed text old new start end left within h =
     ∙ ap (λ (words : List (List ℕ)). words ++ left) (map-append (bytes_of_word text) old (word ∷ []))
     ∙ append_assoc (bytes_of_words text old) (bytes_of_word text word ∷ []) left
     ∙ ap (λ (bytes : List ℕ). bytes_of_words text old ++ bytes ∷ left) (word_of_part text start end within)
-
-pub any_pushed : (p : List ℕ → Bool) (before : Bool) (word : List ℕ) (left : List (List ℕ)) → ((before || p word) || list_any p left) ≡ (before || list_any p (word ∷ left))
-any_pushed p true word left = refl
-any_pushed p false word left = refl
 
 -- the words of a part, cut behind the first
 pub first_of_part : (text : List ℕ) (from to start end next : ℕ) → start ≤ end → end ≤ next → from + next ≤ to → words_in (bytes_between text from to) ≡ bytes_between (bytes_between text from to) start end ∷ words_in (drop next (bytes_between text from to))

@@ -107,7 +107,7 @@ fn push_words(
     words: &mut Vec<Word>,
 ) -> Result<Seen, AllocError>
     requires within { (from ≤ to) × (to ≤ length text.now) }
-    requires few { length text.now ≤ 67108864 }
+    requires short { length text.now ≤ 67108864 }
     ensures words { OnOk result (bytes_of_words text.now words.new.items ≡ bytes_of_words text.now words.old.items ++ words_in (bytes_between text.now from to)) }
     ensures marked { IfOk result (λ seen. seen.marked ≡ has_marked_word (words_in (bytes_between text.now from to))) }
     ensures long { IfOk result (λ seen. seen.long ≡ has_longer_word longest (words_in (bytes_between text.now from to))) }
@@ -144,7 +144,7 @@ pub fn take_words(
     words: &mut Vec<Word>,
 ) -> Result<bool, TextFault>
     requires within { (from ≤ to) × (to ≤ length text.now) }
-    requires few { length text.now ≤ 67108864 }
+    requires short { length text.now ≤ 67108864 }
     ensures words { OnOk result (bytes_of_words text.now words.new.items ≡ bytes_of_words text.now words.old.items ++ words_of (bytes_between text.now from to)) }
     ensures goes_on { IfOk result (λ more. more ≡ goes_on (bytes_between text.now from to)) }
     ensures ok { OnOk result (line_fault longest (number, bytes_between text.now from to) ≡ None) }

@@ -1,8 +1,9 @@
 use Rattle.std.proofs.Common.{ℕ, ◌+◌, ◌||◌, ◌++◌, Bool, List, length, nat_lt, arith, ap, sym, ◌∙◌, ◌≤◌}
+use Rattle.std.proofs.Math.Bool.{or_assoc}
 use Rattle.lid_base.specs.Lines.{ends_in_mark, words_in}
 use Rattle.lid_blif.specs.Joins.{has_marked_word, has_longer_word}
 use Rattle.lid_blif.specs.Places.{bytes_between, bytes_of_words}
-use Rattle.lid_blif.proofs.Places.{part_length, pushed, any_pushed, first_of_part}
+use Rattle.lid_blif.proofs.Places.{part_length, pushed, first_of_part}
 use Rattle.lid_blif.proofs.physical.push_words.Goals as goal
 
 pub loop-bounds-preserved : goal.loop-bounds-preserved
@@ -18,7 +19,6 @@ loop-bounds-preserved c =
     let within : at + next ≤ to = omega (arith, bounds.3, part_length text at to c.requires.within.1, held.within) in
     let word = bytes_between text (at + start) (at + end) in
     let left = words_in (bytes_between text (at + next) to) in
-    let long = λ (w : List ℕ). nat_lt c.args.longest (length w) in
     let cut = first_of_part text at to start end next bounds.0 bounds.1 within c.in-Some.ensures.words in
     record {
       within = within;
@@ -28,11 +28,11 @@ loop-bounds-preserved c =
           ∙ held.words;
       marked =
           ap (λ (b : Bool). (c.loop-bounds.marked || b) || has_marked_word left) c.ends_in_mark-marked.ensures
-          ∙ any_pushed ends_in_mark c.loop-bounds.marked word left
+          ∙ or_assoc c.loop-bounds.marked (ends_in_mark word) (has_marked_word left)
           ∙ ap (λ (ws : List (List ℕ)). c.loop-bounds.marked || has_marked_word ws) (sym cut)
           ∙ held.marked;
       long =
-          any_pushed long c.loop-bounds.long word left
+          or_assoc c.loop-bounds.long (nat_lt c.args.longest (length word)) (has_longer_word c.args.longest left)
           ∙ ap (λ (ws : List (List ℕ)). c.loop-bounds.long || has_longer_word c.args.longest ws) (sym cut)
           ∙ held.long;
     }
