@@ -2,7 +2,7 @@
 
 use lid_base::{
     Bytes, DirShelf, Fetch, File, Gate, Items, Line, MeetGate, MemShelf, MemSink, Name, Noting,
-    OpenGate, Shelf, Sink, StdSink, Text, TextFault, lines,
+    OpenGate, Shelf, Sink, StdSink, Text, TextFault, copy_name, lines,
 };
 use std::alloc::{AllocError, Global};
 use std::convert::AsStr;

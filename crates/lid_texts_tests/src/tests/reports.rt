@@ -1,6 +1,6 @@
 //! Texts of runs, with what the formats say of them, worked out by hand.
 
-use lid_base::{Answer, Items, Name, Shown, Tally, Which};
+use lid_base::{Answer, Items, Name, Shown, Tally, Which, copy_name};
 use lid_texts::{
     ChannelLine, Report, SchedFault, Trace, TraceFault, print_answer, print_cycles, print_report,
     print_tallies, print_trace, read_schedule, trace_fits,
@@ -293,8 +293,8 @@ fn is_reported(alloc: Global, root: Name) -> bool {
 
 #[test]
 fn reports_are_printed(rt: HostRuntime) {
-    match Vec::from_slice(rt.alloc(), b"top") {
-        Ok(root) => assert!(rt; is_reported(rt.alloc(), Items::from_vec(root))),
+    match copy_name(rt.alloc(), b"top") {
+        Ok(root) => assert!(rt; is_reported(rt.alloc(), root)),
         Err(_) => assert!(rt; false, "no memory"),
     }
 }
