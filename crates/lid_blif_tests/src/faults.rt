@@ -53,13 +53,15 @@ fn told_of(alloc: Global, text: &[u8]) -> Told {
 }
 
 /// Texts with their first fault.
-static FAULTS: [(&str, Told); 30] = [
+static FAULTS: [(&str, Told); 32] = [
     ("", ("NoModel", 0)),
     ("# only a comment\n\n", ("NoModel", 0)),
     ("\n.inputs a\n", ("NoModel", 2)),
     (".model m\n.end\n.end\n", ("NoModel", 3)),
     (".model m\n.end\n.gate g\n", ("NoModel", 3)),
     (".model m\n.inputs a\u{1}\n", ("BadByte", 2)),
+    (".model m\n.inputs a\\ b\n", ("BadByte", 2)),
+    (".model m # \u{1}\n.gate g\n", ("Unsupported", 2)),
     (".model m\n.gate nand2 A=a\n.end", ("Unsupported", 2)),
     (".model\n", ("Arity", 1)),
     (".model m n\n", ("Arity", 1)),
