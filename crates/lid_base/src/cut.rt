@@ -39,14 +39,14 @@ fn find_comment(bytes: &[u8]) -> Option<usize>
 }
 
 /// Where the first separator stands.
-fn find_separator(bytes: &[u8]) -> Option<usize>
+pub fn find_separator(bytes: &[u8]) -> Option<usize>
     ensures { result ≡ position is_separator bytes.now }
 {
     bytes.iter().position(|b| is_separator(*b))
 }
 
 /// Where the first byte stands that is no separator.
-fn find_word(bytes: &[u8]) -> Option<usize>
+pub fn find_word(bytes: &[u8]) -> Option<usize>
     ensures { result ≡ position (λ b. not (is_separator b)) bytes.now }
 {
     bytes.iter().position(|b| !is_separator(*b))
@@ -135,7 +135,7 @@ fn words_part(line: &[u8]) -> &[u8]
 }
 
 /// The first of the words between separators, and the bytes after it. `None` is no word.
-pub fn next_word(bytes: &[u8]) -> Option<(&[u8], &[u8])>
+fn next_word(bytes: &[u8]) -> Option<(&[u8], &[u8])>
     ensures words { MatchOption result (words_in bytes.now ≡ []) (λ x. words_in bytes.now ≡ x.0.now ∷ words_in x.1.now) }
     ensures shorter { IfSome result (λ x. length x.1.now < length bytes.now) }
 {

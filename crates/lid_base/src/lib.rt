@@ -18,8 +18,8 @@ mod which;
 mod words;
 
 pub use cut::{
-    content_of, cut_line, ends_in_mark, goes_on, has_bad_byte, has_stray_byte, next_word,
-    push_words, trimmed,
+    content_of, cut_line, ends_in_mark, find_separator, find_word, goes_on, has_bad_byte,
+    has_stray_byte, push_words, trimmed,
 };
 pub use items::{Bytes, Items};
 pub use line::{Line, TextFault, lines};

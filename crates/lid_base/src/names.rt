@@ -8,7 +8,8 @@ use smallvec::SmallVec;
 use std::alloc::{AllocError, Global};
 use std::marker::Model;
 
-/// A name: the bytes of one word. Up to 16 lie in the name itself, more in an allocation. A contract sees the bytes.
+/// A name: the bytes of one word. A contract sees the bytes. Of a copy up to 16 lie in the name itself, more in an
+/// allocation.
 #[derive(Drop)]
 pub struct Name {
     bytes: SmallVec<u8, 16>,

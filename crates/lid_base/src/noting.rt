@@ -43,7 +43,7 @@ fn fetch_of(alloc: Global, name: &str, at: u64, room: usize) -> Result<Fetch, Al
     Ok(Fetch { name, at, room })
 }
 
-/// A piece that is written.
+/// A copy of a piece.
 fn copy_piece(alloc: Global, piece: &[u8]) -> Result<Bytes, AllocError>
     ensures { IfOk result (λ call. call ≡ piece.now) }
 {

@@ -1,12 +1,14 @@
 //! A physical line, gone over once: its words, and what is at fault in it.
 
-ghost use Rattle.std.specs.Prelude.{◌≡◌, ◌+◌, ◌<◌, ◌≤◌, ◌⊎◌, ◌∷◌, [], ◌++◌, length, not, take, drop, position, IfOk, OnOk, IfErr, IfSome, MatchOption, Some, None};
-ghost use Rattle.lid_base.specs.Lines.{is_separator, content_of, goes_on, words_in, words_of, line_fault};
+ghost use Rattle.std.specs.Prelude.{◌≡◌, ◌+◌, ◌<◌, ◌≤◌, ◌⊎◌, ◌∷◌, [], ◌++◌, length, take, drop, IfOk, OnOk, IfErr, IfSome, MatchOption, Some, None};
+ghost use Rattle.lid_base.specs.Lines.{content_of, goes_on, words_in, words_of, line_fault};
 ghost use Rattle.lid_blif.specs.Joins.{has_marked_word, has_longer_word};
 ghost use Rattle.lid_blif.specs.Places.{bytes_between, bytes_of_words};
 
 use crate::line::Word;
-use lid_base::{TextFault, content_of, ends_in_mark, has_stray_byte, trimmed};
+use lid_base::{
+    TextFault, content_of, ends_in_mark, find_separator, find_word, has_stray_byte, trimmed,
+};
 use std::alloc::AllocError;
 
 /// The parts of a physical line.
@@ -36,27 +38,6 @@ fn line_parts(line: &[u8]) -> LineParts<'_>
         end,
         goes_on,
     }
-}
-
-/// Whether a byte separates words: a blank, a tab or a carriage return.
-fn is_separator(byte: u8) -> bool
-    ensures { result ≡ is_separator byte }
-{
-    byte == b' ' || byte == b'\t' || byte == b'\r'
-}
-
-/// Where the first byte stands that is no separator.
-fn find_word(bytes: &[u8]) -> Option<usize>
-    ensures { result ≡ position (λ b. not (is_separator b)) bytes.now }
-{
-    bytes.iter().position(|byte| !is_separator(*byte))
-}
-
-/// Where the first separator stands.
-fn find_separator(bytes: &[u8]) -> Option<usize>
-    ensures { result ≡ position is_separator bytes.now }
-{
-    bytes.iter().position(|byte| is_separator(*byte))
 }
 
 /// Where a word begins, where it has ended, and where the bytes after it and its separator begin.
