@@ -6,3 +6,4 @@ pub mod Trails
 pub mod Uphill
 pub mod Backward
 pub mod Reached
+pub mod Concatenated

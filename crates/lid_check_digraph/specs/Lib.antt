@@ -1,5 +1,6 @@
 pub mod Graphs
 pub mod PartialOrders
+pub mod Concatenated
 pub mod Traversals
 pub mod Searches
 pub mod Results

@@ -6,14 +6,14 @@ ghost use Rattle.lid_base.specs.Lists.{Among};
 ghost use Rattle.lid_check_digraph.specs.Graphs.{IsGraph, reads_at, flag};
 ghost use Rattle.lid_check_digraph.specs.PartialOrders.{AreBelow};
 
-use lid_base::Items;
+use crate::read_lists::ReadLists;
 
 /// A directed graph: what each of some numbers reads. There are fewer than 2^32 numbers, and each that
 /// is read is one of them. An edge leads from what is read to its reader.
 #[derive(Clone, Copy)]
 pub struct Digraph<'r> {
-    /// Entry k has the numbers that k reads.
-    pub reads: &'r [Items<u32>],
+    /// List k has the numbers that k reads.
+    pub reads: &'r ReadLists,
     ghost is_graph: { IsGraph reads.now },
 }
 
@@ -31,7 +31,7 @@ impl<'r> Digraph<'r> {
         ensures reads { result.now ≡ reads_at self.now.reads.now k }
         ensures below { AreBelow (length self.now.reads.now) result.now }
     {
-        self.reads[k as usize].as_slice()
+        self.reads.list(k as usize)
     }
 }
 
@@ -57,14 +57,14 @@ fn are_below(numbers: &[u32], count: usize) -> bool
 
 /// Whether these are the reads of a graph: there are fewer than 2^32 numbers, and each that is read is
 /// one of them.
-pub fn is_graph(reads: &[Items<u32>]) -> bool
+pub fn is_graph(reads: &ReadLists) -> bool
     ensures { IsTrue result ↔ IsGraph reads.now }
 {
     if reads.len() >= 1 << 32 {
         return false;
     }
-    for row in reads {
-        if !are_below(row.as_slice(), reads.len()) {
+    for k in 0..reads.len() {
+        if !are_below(reads.list(k), reads.len()) {
             return false;
         }
     }

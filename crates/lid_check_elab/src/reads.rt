@@ -1,21 +1,21 @@
 //! What each column reads in the same row.
 
-ghost use Rattle.std.specs.Prelude.{◌≡◌, map, IfOk};
+ghost use Rattle.std.specs.Prelude.{◌≡◌, ◌++◌, ◌∷◌, [], map, IfOk, OnOk};
 ghost use Rattle.lid_check_elab.specs.Elaborations.{driver_reads};
 
 use crate::driver::ColumnDriver;
-use lid_base::Items;
+use lid_check_digraph::ReadLists;
 use std::alloc::{AllocError, Global};
 
-/// The numbers of the columns whose bits of the same row a driver reads.
-fn reads_of(alloc: Global, driver: &ColumnDriver) -> Result<Items<u32>, AllocError>
-    ensures { IfOk result (λ reads. reads ≡ driver_reads driver.now) }
+/// Appends the numbers of the columns whose bits of the same row a driver reads.
+fn push_reads(all: &mut ReadLists, driver: &ColumnDriver) -> Result<(), AllocError>
+    ensures { OnOk result (all.new ≡ all.old ++ driver_reads driver.now ∷ []) }
 {
     match driver {
-        ColumnDriver::Cover { inputs, .. } => Ok(Items::from_vec(inputs.as_slice().to_vec(alloc)?)),
-        ColumnDriver::Connection(other) => Ok(Items::from_vec(vec![in alloc; *other]?)),
-        ColumnDriver::Input(_) => Ok(Items::from_vec(Vec::new(alloc))),
-        ColumnDriver::Latch { .. } => Ok(Items::from_vec(Vec::new(alloc))),
+        ColumnDriver::Cover { inputs, .. } => all.push(inputs.as_slice()),
+        ColumnDriver::Connection(other) => all.push(&[*other]),
+        ColumnDriver::Input(_) => all.begin(),
+        ColumnDriver::Latch { .. } => all.begin(),
     }
 }
 
@@ -23,12 +23,12 @@ fn reads_of(alloc: Global, driver: &ColumnDriver) -> Result<Items<u32>, AllocErr
 ///
 /// # Errors
 /// Where there is no memory.
-pub fn find_reads(alloc: Global, drivers: &[ColumnDriver]) -> Result<Items<Items<u32>>, AllocError>
+pub fn find_reads(alloc: Global, drivers: &[ColumnDriver]) -> Result<ReadLists, AllocError>
     ensures { IfOk result (λ reads. reads ≡ map driver_reads drivers.now) }
 {
-    let mut all = Vec::with_capacity(alloc, drivers.len())?;
+    let mut all = ReadLists::with_capacity(alloc, drivers.len())?;
     for driver in drivers {
-        all.push(reads_of(alloc, driver)?)?;
+        push_reads(&mut all, driver)?;
     }
-    Ok(Items::from_vec(all))
+    Ok(all)
 }

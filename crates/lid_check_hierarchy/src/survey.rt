@@ -138,9 +138,7 @@ fn find_model_order(alloc: Global, uses: &Uses<'_>) -> Result<Items<u32>, Survey
     let Ok(graph) = uses.graph(alloc) else {
         return Err(SurveyFault::Memory);
     };
-    let graph = Digraph {
-        reads: graph.as_slice(),
-    };
+    let graph = Digraph { reads: &graph };
     match find_order(alloc, &graph) {
         Ok(Found::Order(all)) => keep_order(alloc, uses, all.as_slice()),
         Ok(Found::Loop(model)) => Err(SurveyFault::Recursive { model }),

@@ -8,7 +8,7 @@ ghost use Rattle.lid_design.specs.Models.{instance_number, AreReached};
 ghost use Rattle.lid_design.specs.WellFormed.{IsWellFormed};
 
 use lid_base::Items;
-use lid_check_digraph::{Digraph, find_reaching};
+use lid_check_digraph::{Digraph, ReadLists, find_reaching};
 use lid_check_names::NameSet;
 use lid_design::{Design, Inst};
 use std::alloc::{AllocError, Global};
@@ -152,9 +152,7 @@ fn mark_used(
 {
     let graph = graph_of(alloc, numbers)?;
     let cut = no_marks(alloc, graph.len())?;
-    let graph = Digraph {
-        reads: graph.as_slice(),
-    };
+    let graph = Digraph { reads: &graph };
     find_reaching(alloc, &graph, cut.as_slice(), design.root)
 }
 
@@ -166,14 +164,14 @@ fn no_marks(alloc: Global, count: usize) -> Result<Vec<bool>, AllocError>
 }
 
 /// The graph of the models: each reads those of its instances.
-fn graph_of(alloc: Global, numbers: &[Items<Option<u32>>]) -> Result<Items<Items<u32>>, AllocError>
+fn graph_of(alloc: Global, numbers: &[Items<Option<u32>>]) -> Result<ReadLists, AllocError>
     ensures { IfOk result (λ graph. graph ≡ map some_of numbers.now) }
 {
-    let mut graph = Vec::with_capacity(alloc, numbers.len())?;
+    let mut graph = ReadLists::with_capacity(alloc, numbers.len())?;
     for row in numbers {
-        graph.push(known_of(alloc, row.as_slice())?)?;
+        graph.push(known_of(alloc, row.as_slice())?.as_slice())?;
     }
-    Ok(Items::from_vec(graph))
+    Ok(graph)
 }
 
 /// The numbers that are there.
@@ -232,7 +230,7 @@ impl<'d> Uses<'d> {
 
 impl<'d> Uses<'d> {
     /// The graph of the reached models: each reads the models of its instances.
-    pub(crate) fn graph(&self, alloc: Global) -> Result<Items<Items<u32>>, AllocError>
+    pub(crate) fn graph(&self, alloc: Global) -> Result<ReadLists, AllocError>
         ensures used { IfOk result (IsUsedGraph self.now) }
         ensures graph { IfOk result IsGraph }
     {
@@ -260,15 +258,15 @@ fn keep_marked_rows(
     alloc: Global,
     marks: &[bool],
     numbers: &[Items<Option<u32>>],
-) -> Result<Items<Items<u32>>, AllocError>
+) -> Result<ReadLists, AllocError>
     requires { length marks.now ≡ length numbers.now }
     ensures { IfOk result (λ graph. graph ≡ kept marks.now numbers.now) }
 {
-    let mut graph = Vec::with_capacity(alloc, numbers.len())?;
+    let mut graph = ReadLists::with_capacity(alloc, numbers.len())?;
     for k in 0..numbers.len() {
-        graph.push(keep_row(alloc, marks[k], numbers[k].as_slice())?)?;
+        graph.push(keep_row(alloc, marks[k], numbers[k].as_slice())?.as_slice())?;
     }
-    Ok(Items::from_vec(graph))
+    Ok(graph)
 }
 
 /// The numbers that are there, where the mark is set, and else none.

@@ -11,7 +11,7 @@ ghost use Rattle.lid_check_loops.specs.Flaws.{IsFirstDependence, IsFirstFlaw, Is
 use crate::outputs::{Lead, find_dependence};
 use crate::pearls::find_inputs;
 use lid_base::{Items, Name, copy_name};
-use lid_check_digraph::{Digraph, Found, find_order};
+use lid_check_digraph::{Digraph, Found, ReadLists, find_order};
 use lid_check_drivers::Judged;
 use lid_check_elab::{Elaboration, find_column, find_reads};
 use lid_check_hierarchy::Survey;
@@ -45,14 +45,14 @@ pub fn find_flaw(alloc: Global, columns: &Elaboration<'_>) -> Result<Verdict, Al
     ensures { IfOk result (IsVerdict columns.now.design columns.now.drivers) }
 {
     let reads = find_reads(alloc, columns.drivers())?;
-    find_among(alloc, columns, reads.as_slice())
+    find_among(alloc, columns, &reads)
 }
 
 /// The first flaw of some columns, by what each reads in the same row.
 fn find_among(
     alloc: Global,
     columns: &Elaboration<'_>,
-    reads: &[Items<u32>],
+    reads: &ReadLists,
 ) -> Result<Verdict, AllocError>
     requires { reads.now ≡ map driver_reads columns.now.drivers }
     ensures { IfOk result (IsVerdict columns.now.design columns.now.drivers) }

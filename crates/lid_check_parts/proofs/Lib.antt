@@ -9,4 +9,3 @@ pub mod Earlier
 pub mod Nets
 pub mod Rules
 pub mod Looping
-pub mod Taking

@@ -1,6 +1,6 @@
 //! The latches and covers of a flat part, in an order of its nets.
 
-ghost use Rattle.std.specs.Prelude.{◌≡◌, ◌++◌, ◌<◌, ◌≤◌, [], length, map, set, slice_index_or, IfOk, OnOk};
+ghost use Rattle.std.specs.Prelude.{◌≡◌, ◌++◌, ◌<◌, ◌≤◌, [], length, map, IfOk, OnOk};
 ghost use Rattle.lid_check_digraph.specs.Graphs.{IsOrder};
 ghost use Rattle.lid_check_elab.specs.Covers.{cover_in};
 ghost use Rattle.lid_check_elab.specs.Elaborations.{driver_reads, shown_driver};
@@ -9,11 +9,11 @@ ghost use Rattle.lid_check_parts.specs.Inner.{buffer, counted_from, inner_driver
 
 use crate::part::PearlPart;
 use lid_base::Items;
+use lid_check_digraph::ReadLists;
 use lid_check_elab::{ColumnDriver, cover_at};
 use lid_cover::{Cover, Cube};
 use lid_design::{Design, FlatCover, FlatLatch};
 use std::alloc::{AllocError, Global};
-use std::mem;
 
 /// A part of the network of a design.
 #[derive(Clone, Copy)]
@@ -150,21 +150,20 @@ fn push_cell(
 pub(crate) fn find_cells(
     alloc: Global,
     source: &Source<'_>,
-    reads: Vec<Items<u32>>,
+    reads: &ReadLists,
     order: &[u32],
 ) -> Result<Cells, AllocError>
     requires part { IsNetworkPart source.now.drivers.now source.now.part }
     requires few { length source.now.drivers.now ≤ 1048576 }
-    requires reads { reads.items ≡ map driver_reads (inner_drivers source.now.drivers.now source.now.part) }
+    requires reads { reads.now ≡ map driver_reads (inner_drivers source.now.drivers.now source.now.part) }
     requires order { IsOrder (map driver_reads (inner_drivers source.now.drivers.now source.now.part)) order.now }
     ensures latches { IfOk result (λ cells. cells.latches.items
         ≡ latches_in source.now.design.now (inner_drivers source.now.drivers.now source.now.part) order.now) }
     ensures covers { IfOk result (λ cells. cells.covers.items
         ≡ network_covers source.now.design.now (inner_drivers source.now.drivers.now source.now.part) order.now) }
 {
-    let mut left = reads;
     let mut cells = no_cells(alloc, source)?;
-    push_cells(alloc, &mut cells, source, left.as_mut_slice(), order)?;
+    push_cells(alloc, &mut cells, source, reads, order)?;
     Ok(cells)
 }
 
@@ -192,17 +191,17 @@ fn count_latches(source: &Source<'_>) -> usize {
     count
 }
 
-/// Adds what gives the nets of a part their bits, in an order of them, and takes away what each reads.
+/// Adds what gives the nets of a part their bits, in an order of them, by what each reads.
 fn push_cells(
     alloc: Global,
     cells: &mut Cells,
     source: &Source<'_>,
-    reads: &mut [Items<u32>],
+    reads: &ReadLists,
     order: &[u32],
 ) -> Result<(), AllocError>
     requires part { IsNetworkPart source.now.drivers.now source.now.part }
     requires few { length source.now.drivers.now ≤ 1048576 }
-    requires reads { reads.old ≡ map driver_reads (inner_drivers source.now.drivers.now source.now.part) }
+    requires reads { reads.now ≡ map driver_reads (inner_drivers source.now.drivers.now source.now.part) }
     requires order { IsOrder (map driver_reads (inner_drivers source.now.drivers.now source.now.part)) order.now }
     ensures latches { OnOk result (cells.new.latches.items ≡ cells.old.latches.items
         ++ latches_in source.now.design.now (inner_drivers source.now.drivers.now source.now.part) order.now) }
@@ -210,17 +209,8 @@ fn push_cells(
         ++ network_covers source.now.design.now (inner_drivers source.now.drivers.now source.now.part) order.now) }
 {
     for net in order {
-        let ins = take_reads(alloc, reads, *net);
-        push_cell(alloc, cells, source, *net, ins)?;
+        let ins = reads.list(*net as usize).to_vec(alloc)?;
+        push_cell(alloc, cells, source, *net, Items::from_vec(ins))?;
     }
     Ok(())
-}
-
-/// Takes away what a net reads.
-fn take_reads(alloc: Global, reads: &mut [Items<u32>], net: u32) -> Items<u32>
-    requires { net < length reads.old }
-    ensures taken { result ≡ slice_index_or reads.old net [] }
-    ensures left { reads.new ≡ set reads.old net [] }
-{
-    mem::replace(&mut reads[net as usize], Items::from_vec(Vec::new(alloc)))
 }

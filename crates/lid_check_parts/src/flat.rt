@@ -11,7 +11,7 @@ use crate::cells::{Source, find_cells};
 use crate::inner::find_reads;
 use crate::part::PearlPart;
 use lid_base::Items;
-use lid_check_digraph::{Digraph, Found, find_order};
+use lid_check_digraph::{Digraph, Found, ReadLists, find_order};
 use lid_check_elab::ColumnDriver;
 use lid_design::{Design, Flat};
 use std::alloc::{AllocError, Global};
@@ -50,7 +50,7 @@ fn find_ports(alloc: Global, part: PearlPart) -> Result<Ports, AllocError>
 }
 
 /// An order of some nets, in which each stands after those that it reads in the same row.
-fn order_of(alloc: Global, reads: &[Items<u32>]) -> Result<Items<u32>, AllocError>
+fn order_of(alloc: Global, reads: &ReadLists) -> Result<Items<u32>, AllocError>
     requires graph { IsGraph reads.now }
     requires loops { HasNoLoop reads.now }
     ensures { IfOk result (IsOrder reads.now) }
@@ -86,20 +86,20 @@ pub fn flatten(
         drivers,
         part,
     };
-    flat_of(alloc, &source, reads)
+    flat_of(alloc, &source, &reads)
 }
 
 /// The flat part of a part, by what its nets read.
-fn flat_of(alloc: Global, source: &Source<'_>, reads: Items<Items<u32>>) -> Result<Flat, AllocError>
+fn flat_of(alloc: Global, source: &Source<'_>, reads: &ReadLists) -> Result<Flat, AllocError>
     requires part { IsNetworkPart source.now.drivers.now source.now.part }
     requires few { length source.now.drivers.now ≤ 1048576 }
     requires covers { AllByRecursion (HasCover source.now.design.now) source.now.drivers.now }
     requires loops { HasNoLoop (map driver_reads source.now.drivers.now) }
-    requires reads { reads ≡ map driver_reads (inner_drivers source.now.drivers.now source.now.part) }
+    requires reads { reads.now ≡ map driver_reads (inner_drivers source.now.drivers.now source.now.part) }
     ensures { IfOk result (IsFlattened source.now.design.now source.now.drivers.now source.now.part) }
 {
-    let order = order_of(alloc, reads.as_slice())?;
-    let cells = find_cells(alloc, source, reads.into_vec(), order.as_slice())?;
+    let order = order_of(alloc, reads)?;
+    let cells = find_cells(alloc, source, reads, order.as_slice())?;
     let ports = find_ports(alloc, source.part)?;
     Ok(Flat {
         nets: source.part.nets,

@@ -1,63 +1,58 @@
 //! What the nets of a part read, with the numbers that they read counted from its first.
 
-ghost use Rattle.std.specs.Prelude.{◌≡◌, ◌+◌, ◌-◌, ◌<◌, ◌≤◌, length, map, IfOk};
+ghost use Rattle.std.specs.Prelude.{◌≡◌, ◌+◌, ◌-◌, ◌<◌, ◌≤◌, ◌++◌, ◌∷◌, [], length, map, IfOk, OnOk};
 ghost use Rattle.std.specs.List.{AllByRecursion};
 ghost use Rattle.lid_check_elab.specs.Elaborations.{driver_reads};
 ghost use Rattle.lid_check_parts.specs.Parts.{IsIn, StaysIn, IsNetworkPart};
 ghost use Rattle.lid_check_parts.specs.Inner.{counted_from, inner_driver, inner_drivers};
 
 use crate::part::PearlPart;
-use lid_base::Items;
+use lid_check_digraph::ReadLists;
 use lid_check_elab::ColumnDriver;
 use std::alloc::{AllocError, Global};
 
-/// Some numbers of a part, counted from its first.
-fn count_all(alloc: Global, part: PearlPart, numbers: &[u32]) -> Result<Items<u32>, AllocError>
+/// Appends a list of some numbers of a part, counted from its first.
+fn push_counted(all: &mut ReadLists, part: PearlPart, numbers: &[u32]) -> Result<(), AllocError>
     requires { AllByRecursion (IsIn part) numbers.now }
-    ensures { IfOk result (λ counted. counted ≡ map (λ a. a - part.start) numbers.now) }
+    ensures { OnOk result (all.new ≡ all.old ++ map (λ a. a - part.start) numbers.now ∷ []) }
 {
-    let mut counted = Vec::with_capacity(alloc, numbers.len())?;
+    all.begin()?;
     for number in numbers {
-        counted.push(*number - part.start)?;
+        all.add(*number - part.start)?;
     }
-    Ok(Items::from_vec(counted))
+    Ok(())
 }
 
-/// What a driver that reads numbers of a part alone reads in the same row, counted from the part's first.
-fn count_reads(
-    alloc: Global,
-    part: PearlPart,
-    driver: &ColumnDriver,
-) -> Result<Items<u32>, AllocError>
+/// Appends what a driver that reads numbers of a part alone reads in the same row, counted from the
+/// part's first.
+fn push_reads(all: &mut ReadLists, part: PearlPart, driver: &ColumnDriver) -> Result<(), AllocError>
     requires { StaysIn part driver.now }
-    ensures { IfOk result (λ reads. reads ≡ driver_reads (counted_from part.start driver.now)) }
+    ensures { OnOk result (all.new ≡ all.old ++ driver_reads (counted_from part.start driver.now) ∷ []) }
 {
     match driver {
         ColumnDriver::Input(_) => unreachable!(),
-        ColumnDriver::Latch { .. } => Ok(Items::from_vec(Vec::new(alloc))),
-        ColumnDriver::Cover { inputs, .. } => count_all(alloc, part, inputs.as_slice()),
-        ColumnDriver::Connection(other) => {
-            Ok(Items::from_vec(vec![in alloc; *other - part.start]?))
-        }
+        ColumnDriver::Latch { .. } => all.begin(),
+        ColumnDriver::Cover { inputs, .. } => push_counted(all, part, inputs.as_slice()),
+        ColumnDriver::Connection(other) => all.push(&[*other - part.start]),
     }
 }
 
-/// What a net of a part reads in the same row.
-fn reads_of(
-    alloc: Global,
+/// Appends what a net of a part reads in the same row.
+fn push_reads_of(
+    all: &mut ReadLists,
     drivers: &[ColumnDriver],
     part: PearlPart,
     k: u32,
-) -> Result<Items<u32>, AllocError>
+) -> Result<(), AllocError>
     requires part { IsNetworkPart drivers.now part }
     requires few { length drivers.now ≤ 1048576 }
     requires there { k < part.nets }
-    ensures { IfOk result (λ reads. reads ≡ driver_reads (inner_driver drivers.now part k)) }
+    ensures { OnOk result (all.new ≡ all.old ++ driver_reads (inner_driver drivers.now part k) ∷ []) }
 {
     if k < part.inputs {
-        return Ok(Items::from_vec(Vec::new(alloc)));
+        return all.begin();
     }
-    count_reads(alloc, part, &drivers[(part.start + k) as usize])
+    push_reads(all, part, &drivers[(part.start + k) as usize])
 }
 
 /// What the nets of a part read in the same row, by their numbers from 0 on.
@@ -68,14 +63,14 @@ pub(crate) fn find_reads(
     alloc: Global,
     drivers: &[ColumnDriver],
     part: PearlPart,
-) -> Result<Items<Items<u32>>, AllocError>
+) -> Result<ReadLists, AllocError>
     requires part { IsNetworkPart drivers.now part }
     requires few { length drivers.now ≤ 1048576 }
     ensures { IfOk result (λ reads. reads ≡ map driver_reads (inner_drivers drivers.now part)) }
 {
-    let mut all = Vec::with_capacity(alloc, part.nets as usize)?;
+    let mut all = ReadLists::with_capacity(alloc, part.nets as usize)?;
     for k in 0..part.nets {
-        all.push(reads_of(alloc, drivers, part, k)?)?;
+        push_reads_of(&mut all, drivers, part, k)?;
     }
-    Ok(Items::from_vec(all))
+    Ok(all)
 }

@@ -2,8 +2,9 @@
 //! long chains.
 
 use crate::tests::designs::are;
-use lid_base::Items;
-use lid_check_digraph::{Digraph, Found, find_order, find_reached, find_reaching, is_graph};
+use lid_check_digraph::{
+    Digraph, Found, ReadLists, find_order, find_reached, find_reaching, is_graph,
+};
 use std::alloc::{AllocError, Global};
 
 /// The row of a number: of so many numbers the first each read the next, and then come these rows.
@@ -18,10 +19,11 @@ fn row_of(alloc: Global, chain: u32, rows: &[&[u32]], k: usize) -> Result<Vec<u3
 }
 
 /// What each number reads: a chain and then these rows.
-fn graph_of(alloc: Global, chain: u32, rows: &[&[u32]]) -> Result<Vec<Items<u32>>, AllocError> {
-    let mut reads = Vec::new(alloc);
-    for k in 0..(chain as usize).saturating_add(rows.len()) {
-        reads.push(Items::from_vec(row_of(alloc, chain, rows, k)?))?;
+fn graph_of(alloc: Global, chain: u32, rows: &[&[u32]]) -> Result<ReadLists, AllocError> {
+    let count = (chain as usize).saturating_add(rows.len());
+    let mut reads = ReadLists::with_capacity(alloc, count)?;
+    for k in 0..count {
+        reads.push(row_of(alloc, chain, rows, k)?.as_slice())?;
     }
     Ok(reads)
 }
@@ -53,10 +55,9 @@ fn outcome_of(alloc: Global, found: Found) -> Outcome {
 
 /// What is found of the rows after the chain.
 fn found_in(alloc: Global, chain: u32, rows: &[&[u32]]) -> Result<Outcome, AllocError> {
-    let rows = graph_of(alloc, chain, rows)?;
-    let reads = rows.as_slice();
-    if is_graph(reads) {
-        let found = find_order(alloc, &Digraph { reads })?;
+    let reads = graph_of(alloc, chain, rows)?;
+    if is_graph(&reads) {
+        let found = find_order(alloc, &Digraph { reads: &reads })?;
         return Ok(outcome_of(alloc, found));
     }
     Ok(Outcome {
@@ -227,7 +228,7 @@ fn are_flags(flags: &[bool], want: &[bool]) -> bool {
 /// Whether this is reached in a graph from the starts.
 fn reached_in(
     alloc: Global,
-    reads: &[Items<u32>],
+    reads: &ReadLists,
     cut: &[bool],
     starts: &[bool],
     want: &[bool],
@@ -248,7 +249,7 @@ fn reached_in(
 /// Whether this is reached from the starts.
 fn is_reached(alloc: Global, cut: &[bool], starts: &[bool], want: &[bool]) -> bool {
     match graph_of(alloc, 0, &ROWS) {
-        Ok(reads) => reached_in(alloc, reads.as_slice(), cut, starts, want),
+        Ok(reads) => reached_in(alloc, &reads, cut, starts, want),
         Err(_) => false,
     }
 }
@@ -281,7 +282,7 @@ fn tells_what_is_reached(rt: HostRuntime) {
 }
 
 /// Whether these numbers of a graph reach the end.
-fn reaching_in(alloc: Global, reads: &[Items<u32>], cut: &[bool], end: u32, want: &[bool]) -> bool {
+fn reaching_in(alloc: Global, reads: &ReadLists, cut: &[bool], end: u32, want: &[bool]) -> bool {
     if !is_graph(reads) || cut.len() != reads.len() || (end as usize) >= reads.len() {
         return false;
     }
@@ -294,7 +295,7 @@ fn reaching_in(alloc: Global, reads: &[Items<u32>], cut: &[bool], end: u32, want
 /// The same of the graph with these rows.
 fn is_reaching(alloc: Global, rows: &[&[u32]], cut: &[bool], end: u32, want: &[bool]) -> bool {
     match graph_of(alloc, 0, rows) {
-        Ok(reads) => reaching_in(alloc, reads.as_slice(), cut, end, want),
+        Ok(reads) => reaching_in(alloc, &reads, cut, end, want),
         Err(_) => false,
     }
 }

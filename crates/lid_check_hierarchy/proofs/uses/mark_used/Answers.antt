@@ -9,21 +9,21 @@ use Rattle.lid_check_hierarchy.proofs.uses.mark_used.Goals as goal
 pub invariant_of-graph : goal.invariant_of-graph
 unfolding graph_of
 invariant_of-graph c =
-    let whole : c.as_slice.result.now ≡ graph_of c.args.design.now = c.as_slice.ensures ∙ c.in_ok-graph.ensures ∙ ap (map some_of) c.requires.numbers in
+    let whole : c.in_ok-graph.graph ≡ graph_of c.args.design.now = c.in_ok-graph.ensures ∙ ap (map some_of) c.requires.numbers in
     record { is_graph = subst IsGraph (sym whole) (models_are_graph c.args.design.now c.requires.formed) }
 
 pub returns : goal.returns
 unfolding graph_of
 returns c =
-    let whole : c.as_slice.result.now ≡ graph_of c.args.design.now = c.as_slice.ensures ∙ c.in_ok-graph.ensures ∙ ap (map some_of) c.requires.numbers in
-    let cut = c.as_slice-2.ensures.value ∙ c.in_ok-cut.ensures in
+    let whole : c.in_ok-graph.graph ≡ graph_of c.args.design.now = c.in_ok-graph.ensures ∙ ap (map some_of) c.requires.numbers in
+    let cut = c.as_slice.ensures.value ∙ c.in_ok-cut.ensures in
     if_both_ok
-    {P = λ (marks : List Bool). length marks ≡ length c.as_slice.result.now}
-    {Q = λ (marks : List Bool). (a : ℕ) → IsTrue (flag marks a) ↔ IsReaching c.as_slice.result.now c.as_slice-2.result.now a c.args.design.now.root}
+    {P = λ (marks : List Bool). length marks ≡ length c.in_ok-graph.graph}
+    {Q = λ (marks : List Bool). (a : ℕ) → IsTrue (flag marks a) ↔ IsReaching c.in_ok-graph.graph c.as_slice.result.now a c.args.design.now.root}
     {R = AreReachedMarks c.args.design.now}
     c.find_reaching.result
     (λ marks size exact. record {
       size = size ∙ ap length whole ∙ long_graph c.args.design.now;
-      exact = marks_reached c.args.design.now c.as_slice-2.result.now (flag_none _ _ cut) marks (reached_from c.args.design.now _ whole c.as_slice-2.result.now marks exact);
+      exact = marks_reached c.args.design.now c.as_slice.result.now (flag_none _ _ cut) marks (reached_from c.args.design.now _ whole c.as_slice.result.now marks exact);
     })
     c.find_reaching.ensures.count c.find_reaching.ensures.exact

@@ -9,16 +9,12 @@ use Rattle.lid_check_parts.specs.Inner.{inner_driver, inner_drivers, latches_of,
 use Rattle.lid_check_parts.proofs.Lists.{pushed_more}
 use Rattle.lid_check_parts.proofs.Looping.{long, at}
 use Rattle.lid_check_parts.proofs.Rules.{reads_here}
-use Rattle.lid_check_parts.proofs.Taking.{left_on, left_here}
 use Rattle.lid_check_parts.proofs.cells.push_cells.Goals as goal
 
-pub take_reads-ins-requires : goal.take_reads-ins-requires
-take_reads-ins-requires c =
-    let source = c.args.source.now in
-    let inner = inner_drivers source.drivers.now source.part in
+pub list-requires : goal.list-requires
+list-requires c =
     let within = c.requires.order.within _ (among_at c.args.order.now c.loop-net.net-index 0 c.loop-net-test.true) in
     let given = ap length c.requires.reads in
-    let kept = c.loop-net.invariant.long in
     omega arith
 
 pub push_cell-requires-clause-there : goal.push_cell-requires-clause-there
@@ -41,8 +37,7 @@ push_cell-requires-clause-ins c =
     let within = c.requires.order.within net (among_at order i 0 h) in
     let graph = length-map inner driver_reads in
     let nets = long source.drivers.now source.part c.requires.part in
-    c.take_reads-ins.ensures.taken
-    ∙ left_here (map driver_reads inner) order c.requires.order i h _ _ c.loop-net.invariant.left
+    c.from_vec.ensures ∙ c.in_ok-ins.ensures ∙ c.list.ensures
     ∙ ap (λ (rows : List (List ℕ)). slice_index_or rows net []) c.requires.reads
     ∙ reads_here inner net
     ∙ ap driver_reads (at source.drivers.now source.part c.requires.part net (omega arith))
@@ -62,9 +57,6 @@ loop-net-preserved c =
     let same : inner_driver source.drivers.now source.part net ≡ driver_at inner net = sym (at source.drivers.now source.part c.requires.part net (omega arith)) in
     let new = c.in_ok-push_cell.ensures in
     record {
-      long = ap length c.take_reads-ins.ensures.left ∙ length-set c.loop-net.reads net [] ∙ c.loop-net.invariant.long;
-      left = subst (λ (rows : List (List ℕ)). (k : ℕ) → (Among k (take (i + 1) order) → ⊥) → slice_index_or rows k [] ≡ slice_index_or c.args.reads.now k []) (sym c.take_reads-ins.ensures.left)
-          (left_on (map driver_reads inner) order c.requires.order i h c.args.reads.now c.loop-net.reads c.loop-net.invariant.left);
       latches = pushed_more (λ k. latches_of k (shown_driver d (driver_at inner k))) order i h _ _ _ _ (ap (λ (s : ColumnDriver). latches_of net (shown_driver d s)) same) c.loop-net.invariant.latches new.latches;
       covers = pushed_more (λ k. driver_covers k (shown_driver d (driver_at inner k))) order i h _ _ _ _ (ap (λ (s : ColumnDriver). driver_covers net (shown_driver d s)) same) c.loop-net.invariant.covers new.covers;
     }

@@ -10,8 +10,7 @@ pub loop-k-preserved : goal.loop-k-preserved
 loop-k-preserved c =
     let f = inner_driver c.args.drivers.now c.args.part in
     let k = c.loop-k.k in
-    c.in_ok-push.ensures.items
-    ∙ ap (λ (xs : List (List ℕ)). xs ++ c.in_ok-reads_of.field-0 ∷ []) c.loop-k.invariant
-    ∙ ap (λ (x : List ℕ). map driver_reads (map f (range_with_len 0 k)) ++ x ∷ []) c.in_ok-reads_of.ensures
+    c.in_ok-push_reads_of.ensures
+    ∙ ap (λ (xs : List (List ℕ)). xs ++ driver_reads (f k) ∷ []) c.loop-k.invariant
     ∙ sym (map-append driver_reads (map f (range_with_len 0 k)) (f k ∷ []))
     ∙ ap (map driver_reads) (sym (map-range_with_len_more f 0 k k (zero-add k)))

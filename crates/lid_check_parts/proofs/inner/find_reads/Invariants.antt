@@ -5,4 +5,4 @@ use Rattle.lid_check_parts.specs.Inner.{inner_driver}
 use Rattle.lid_check_parts.proofs.inner.find_reads.Given as goal
 
 abbrev pub invariant-loop-k : goal.invariant-loop-k
-invariant-loop-k l = l.all.items ≡ map driver_reads (map (inner_driver l.drivers l.part) (range_with_len 0 l.k))
+invariant-loop-k l = l.all ≡ map driver_reads (map (inner_driver l.drivers l.part) (range_with_len 0 l.k))

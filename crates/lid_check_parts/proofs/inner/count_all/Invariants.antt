@@ -1,5 +1,0 @@
-use Rattle.std.proofs.Common.{◌≡◌, ◌-◌, map, take}
-use Rattle.lid_check_parts.proofs.inner.count_all.Given as goal
-
-abbrev pub invariant-loop-number : goal.invariant-loop-number
-invariant-loop-number l = l.counted.items ≡ map (λ a. a - l.part.start) (take l.number-index l.numbers)
