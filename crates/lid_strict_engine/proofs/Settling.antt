@@ -94,25 +94,6 @@ put_next nets values bits i k v here there room f known given agrees x among = b
       | inr later ↦ now x (inr (among_right x (take i nets) known later))
     ]
 
--- one more bit is taken
-pub taken_next : (nets : List ℕ) (bits into : List Bool) (i k : ℕ) → slice_get nets i ≡ Some k → i < length into → take i into ≡ map (bit_at bits) (take i nets) → take (i + 1) (set into i (bit_at bits k)) ≡ map (bit_at bits) (take (i + 1) nets)
-taken_next nets bits into i k here room so_far =
-    taken into i (bit_at bits k) room
-    ∙ ap (λ (bs : List Bool). bs ++ bit_at bits k ∷ []) so_far
-    ∙ sym (map_push (take i nets))
-    ∙ ap (map (bit_at bits)) (sym (take_at nets i k here))
-  where
-    taken : (into : List Bool) (i : ℕ) (v : Bool) → i < length into → take (i + 1) (set into i v) ≡ take i into ++ v ∷ []
-    taken [] i v h = absurd (omega arith)
-    taken (b ∷ into) zero v h = refl
-    taken (b ∷ into) (suc i) v h =
-        let next : suc i + 1 ≡ suc (i + 1) = omega arith in
-        ap (λ (n : ℕ). take n (b ∷ set into i v)) next ∙ ap (λ (bs : List Bool). b ∷ bs) (taken into i v (omega arith))
-
-    map_push : (nets : List ℕ) → map (bit_at bits) (nets ++ k ∷ []) ≡ map (bit_at bits) nets ++ bit_at bits k ∷ []
-    map_push [] = refl
-    map_push (n ∷ nets) = ap (λ (bs : List Bool). bit_at bits n ∷ bs) (map_push nets)
-
 -- latches by their places
 abbrev pub no_latch : FlatLatch
 no_latch = record { input = 0; out = 0; init = false }
