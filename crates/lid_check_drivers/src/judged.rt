@@ -99,7 +99,7 @@ impl<'d> Judged<'d> {
     }
 
     /// The place of a name of a reached model among its nets, by the number of the name. `None` where
-    /// it is a clock name, or where there is no such number.
+    /// it is a clock name.
     pub fn place_at(&self, model: u32, number: u32) -> Option<u32>
         requires { IsReached self.now model }
         ensures { (m : Model) (name : List ℕ) → slice_get self.now.models model ≡ Some m → slice_get (names_in m) number ≡ Some name → result ≡ position (bytes_eq name) (model_nets self.now model) }

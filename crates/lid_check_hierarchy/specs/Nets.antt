@@ -39,13 +39,13 @@ net_places nets names = map (λ name. position (bytes_eq name) nets) names
 abbrev pub numbers_of : List (List ℕ) → List (List ℕ) → List ℕ
 numbers_of names list = filter_map (λ name. position (bytes_eq name) names) list
 
--- the places from k on where a list has false
+-- the places where a list has false, counted from k
 abbrev pub places_of_false : ℕ → List Bool → List ℕ
 places_of_false k [] = []
 places_of_false k (true ∷ marks) = places_of_false (k + 1) marks
 places_of_false k (false ∷ marks) = k ∷ places_of_false (k + 1) marks
 
--- where a list has false, how often it had before, counted from k on
+-- at each false of a list how many came before it, counted from k
 abbrev pub counts_of_false : ℕ → List Bool → List (Option ℕ)
 counts_of_false k [] = []
 counts_of_false k (true ∷ marks) = None ∷ counts_of_false k marks

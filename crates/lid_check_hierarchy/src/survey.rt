@@ -223,7 +223,7 @@ impl<'d> Survey<'d> {
     }
 
     /// The place of a name of a reached model among its nets, by the number of the name. `None` where
-    /// it is a clock name, or where there is no such number.
+    /// it is a clock name.
     pub fn place_at(&self, model: u32, number: u32) -> Option<u32>
         requires { IsReached self.now model }
         ensures { (m : Model) (name : List ℕ) → slice_get self.now.models model ≡ Some m → slice_get (names_in m) number ≡ Some name → result ≡ position (bytes_eq name) (model_nets self.now model) }
@@ -266,7 +266,7 @@ impl<'d> Survey<'d> {
         ensures { option_map (λ (r : Bor (List ℕ)). r.now) result ≡ slice_get (model_nets self.now model) place }
     {
         let _ = &self.uses;
-        match number_in(self.nets_of(model), place) {
+        match item_at(self.nets_of(model), place) {
             Some(number) => self.table_of(model).name_at(number as usize),
             None => None,
         }
@@ -303,7 +303,7 @@ fn widen(place: Option<u32>) -> Option<usize>
 }
 
 /// The number at a place of a list.
-fn number_in(numbers: &[u32], place: usize) -> Option<u32>
+fn item_at(numbers: &[u32], place: usize) -> Option<u32>
     ensures { result ≡ slice_get numbers.now place }
 {
     numbers.get(place).copied()
