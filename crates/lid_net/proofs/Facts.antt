@@ -1,57 +1,46 @@
 -- What acceptance says of ports, inputs and drivers.
-use Rattle.std.proofs.Common.{◌≡◌, ◌<◌, ◌≤◌, ◌⊎◌, ◌+◌, ℕ, zero, suc, Bool, true, false, cond, List, [], ◌∷◌, ◌++◌, length, map, get_or, Option, Some, None, option_map, slice_get, inl, inr, refl, sym, ◌∙◌, ap, subst, arith, not, length-append}
+use Rattle.std.proofs.Common.{◌≡◌, ◌<◌, ◌≤◌, ◌⊎◌, ℕ, zero, suc, List, [], ◌∷◌, ◌++◌, length, map, get_or, Option, Some, None, option_map, slice_get, inl, inr, refl, sym, ◌∙◌, ap, subst, arith, not, length-append}
 use Rattle.std.specs.Option.{option_map_or}
 use Rattle.std.proofs.lemmas.Option.{slice_get_within, get_or_from_slice_get, slice_get-map}
 use Rattle.std.specs.List.{AllByRecursion}
 use Rattle.std.proofs.lemmas.List.{length-map}
 use Rattle.lid_base.specs.Lists.{Among, AreOnce}
-use Rattle.lid_base.proofs.Lists.{all_among, get_among, among_get, map_among, then_some, among_one}
-use Rattle.lid_cover.specs.Cover.{IsCover}
+use Rattle.lid_base.proofs.Lists.{get_among, among_get, then_some, among_one}
 use Rattle.lid_design.specs.declared.Design.{Design}
 use Rattle.lid_design.specs.declared.Model.{Model}
-use Rattle.lid_design.specs.Network.{Driver, from_input, from_latch, from_cover, from_connection}
+use Rattle.lid_design.specs.Network.{Driver, from_input}
 use Rattle.lid_design.specs.Columns.{Column, column, model_at, is_clock, data_inputs, drivers_in, drivers, root_inputs}
-use Rattle.lid_design.specs.Elaboration.{columns, model_nets}
+use Rattle.lid_design.specs.Elaboration.{columns}
 use Rattle.lid_design.specs.Models.{insts_of, IsReached, number_from}
 use Rattle.lid_check_drivers.specs.Judged.{IsJudged}
 use Rattle.lid_check_drivers.proofs.Clocking.{model_at_number}
 use Rattle.lid_check.proofs.Sound.{judged_of}
-use Rattle.lid_check_parts.specs.PearlParts.{ArePortsApart}
-use Rattle.lid_check_parts.proofs.Beginning.{inputs_apart, outputs_apart, nets_begin, columns_begin}
+use Rattle.lid_check_parts.proofs.Beginning.{inputs_apart, outputs_apart, nets_begin}
 use Rattle.lid_base.proofs.Once.{once_at, once_filter}
-use Rattle.lid_check_drivers.proofs.Limits.{few_columns}
-use Rattle.lid_check_elab.specs.Numbers.{columns_in, start_of}
-use Rattle.lid_check_elab.proofs.Numbering.{numbering}
 use Rattle.lid_check.proofs.Widths.{nets_few}
 use Rattle.lid_check_parts.proofs.Finding.{whole_pearls, inst_count, inst_pearl}
 use Rattle.std.proofs.lemmas.Bool.{cases_lt}
 use Rattle.lid_design.specs.Loops.{pearls}
-use Rattle.lid_design.specs.Walks.{IsDriven}
 use Rattle.lid_design.specs.WellFormed.{IsWellFormed}
-use Rattle.lid_check_elab.specs.declared.driver.ColumnDriver.{ColumnDriver}
-use Rattle.lid_check_elab.specs.declared.driver.ColumnDriver.TheVariants.{Input, Latch, Cover as OfCover, Connection}
-use Rattle.lid_check_elab.specs.Covers.{cover_in}
-use Rattle.lid_check_elab.specs.Elaborations.{shown_driver, map_driver, column_at}
-use Rattle.lid_check_parts.specs.Parts.{driver_at, HasCover}
+use Rattle.lid_check_elab.specs.Elaborations.{shown_driver, column_at}
+use Rattle.lid_check_parts.specs.Parts.{HasCover}
 use Rattle.lid_check_loops.proofs.Numbered.{same_number}
 use Rattle.lid_check.specs.Acceptance.{IsAccepted}
 use Rattle.lid_check.specs.Networks.{IsNetwork}
 use Rattle.lid_check.specs.declared.network.Network.{Network}
 use Rattle.lid_check.proofs.Flats.{ports_apart, covers}
-use Rattle.lid_net.specs.declared.origin.Origin.{Origin}
 use Rattle.lid_system.specs.declared.Channel.{Channel}
 use Rattle.lid_system.specs.declared.InBit.{InBit}
 use Rattle.lid_net_channels.specs.declared.reads.Read.{Read}
 use Rattle.lid_net_channels.specs.Bits.{CarryAll}
-use Rattle.lid_net.specs.declared.part.ShellPart.{ShellPart}
-use Rattle.lid_net.specs.Marks.{part_outs}
+use Rattle.lid_net.specs.declared.ports.ShellPorts.{ShellPorts}
+use Rattle.lid_net.specs.Marks.{outs_of}
 use Rattle.lid_check_parts.proofs.Reading.{IsNear, driver_near}
 use Rattle.lid_net_law.proofs.Inputs.{root_input_drives}
 use Rattle.lid_net_law.specs.Ports.{outputs_at, ports_of, IsPort}
-use Rattle.lid_net.specs.Graphs.{inputs_of, LeadsTo}
-use Rattle.lid_net.specs.PearlParts.{IsShellPartOf, ArePartsOf}
+use Rattle.lid_net.specs.PearlParts.{AreShellPorts, ArePortsOf}
 use Rattle.lid_net.specs.Systems.{AreOutputs}
-use Rattle.lid_net.proofs.Tracing.{ArePortsOnce, AreInputsPorts, only}
+use Rattle.lid_net.proofs.Tracing.{ArePortsOnce, AreInputsPorts}
 use Rattle.lid_base.proofs.Places.{map_get}
 use Rattle.lid_base.proofs.Alls.{all_from_among}
 
@@ -194,8 +183,8 @@ inputs_ports d formed accepted c j only_driver = by (model_at d c.path) refl
         near (inl (given, inr path)) = at_root m here path given
 
 -- a pearl has no more outputs than there are columns
-pub outputs_few : (d : Design) → IsWellFormed d → IsAccepted d → (count i : ℕ) (part : ShellPart) → IsShellPartOf d count i part → length part.outs ≤ 1048576
-outputs_few d formed accepted count i part is =
+pub outputs_few : (d : Design) → IsWellFormed d → IsAccepted d → (count i : ℕ) (shell : ShellPorts) → AreShellPorts d count i shell → length shell.outs ≤ 1048576
+outputs_few d formed accepted count i shell is =
     let at = then_some (number_from d d.root is.path) (slice_get d.models) is.model (sym (model_at_number d is.path) ∙ is.body) in
     let reached : IsReached d at.0 = (is.path, at.1) in
     let begins = nets_begin d (judged d formed accepted) at.0 reached is.model at.2 (λ net. ports_apart d accepted.outputs i is.path net is.model is.here is.body) in
@@ -203,22 +192,22 @@ outputs_few d formed accepted count i part is =
     let a = ap length begins.1 in
     let b = length-append (data_inputs d is.model) (is.model.outputs ++ begins.0) in
     let e = length-append is.model.outputs begins.0 in
-    let f = sym (length-map part.outs (column_at d)) ∙ ap length is.outs ∙ length-map is.model.outputs (column is.path) in
+    let f = sym (length-map shell.outs (column_at d)) ∙ ap length is.outs ∙ length-map is.model.outputs (column is.path) in
     omega arith
 
 -- the covers of drivers meet their rules
 pub all_cover : (d : Design) (n : Network) → IsWellFormed d → IsNetwork d n → AllByRecursion (HasCover d) n.columns.drivers
 all_cover d n formed is = covers d n.columns.drivers n.columns.starts is.elaborated formed
 
-pub parts_below : (d : Design) (parts : List ShellPart) (n : ℕ) → ArePartsOf d (length (columns d)) parts → n ≡ length (columns d) → AllByRecursion (λ part. AllByRecursion (λ k. k < n) (part_outs part)) parts
-parts_below d parts n are size = all_from_among (λ part. AllByRecursion (λ k. k < n) (part_outs part)) parts (λ part among.
-    let at = among_get parts part among in
-    subst (λ (m : ℕ). AllByRecursion (λ k. k < m) part.outs) (sym size) (are.each at.0 part at.1).outs_below)
+pub ports_below : (d : Design) (ports : List ShellPorts) (n : ℕ) → ArePortsOf d (length (columns d)) ports → n ≡ length (columns d) → AllByRecursion (λ shell. AllByRecursion (λ k. k < n) (outs_of shell)) ports
+ports_below d ports n are size = all_from_among (λ shell. AllByRecursion (λ k. k < n) (outs_of shell)) ports (λ shell among.
+    let at = among_get ports shell among in
+    subst (λ (m : ℕ). AllByRecursion (λ k. k < m) shell.outs) (sym size) (are.each at.0 shell at.1).outs_below)
 
-pub parts_narrow : (d : Design) (parts : List ShellPart) → IsWellFormed d → IsAccepted d → ArePartsOf d (length (columns d)) parts → AllByRecursion (λ part. length (part_outs part) ≤ 1048576) parts
-parts_narrow d parts formed accepted are = all_from_among (λ part. length (part_outs part) ≤ 1048576) parts (λ part among.
-    let at = among_get parts part among in
-    outputs_few d formed accepted (length (columns d)) at.0 part (are.each at.0 part at.1))
+pub ports_narrow : (d : Design) (ports : List ShellPorts) → IsWellFormed d → IsAccepted d → ArePortsOf d (length (columns d)) ports → AllByRecursion (λ shell. length (outs_of shell) ≤ 1048576) ports
+ports_narrow d ports formed accepted are = all_from_among (λ shell. length (outs_of shell) ≤ 1048576) ports (λ shell among.
+    let at = among_get ports shell among in
+    outputs_few d formed accepted (length (columns d)) at.0 shell (are.each at.0 shell at.1))
 
 -- two numbers of one column are equal
 pub numbers_apart : (d : Design) (n : Network) → IsNetwork d n → (j k : ℕ) → j < length n.columns.drivers → k < length n.columns.drivers → column_at d j ≡ column_at d k → j ≡ k

@@ -1,20 +1,18 @@
 -- The system that is made of nodes and channels is that of the design.
-use Rattle.std.proofs.Common.{◌≡◌, ◌<◌, ◌≤◌, ◌+◌, ◌⊎◌, ◌↔◌, ℕ, zero, suc, Bool, true, false, cond, eqb, List, [], ◌∷◌, ◌++◌, length, map, take, reverse, get_or, Option, Some, None, slice_get, inl, inr, refl, sym, ◌∙◌, ap, subst, arith, length-append, append_assoc, zero-add}
+use Rattle.std.proofs.Common.{◌≡◌, ◌<◌, ◌≤◌, ◌+◌, ◌⊎◌, ◌↔◌, ℕ, zero, suc, Bool, true, false, cond, eqb, List, [], ◌∷◌, ◌++◌, length, map, get_or, Option, Some, None, slice_get, inl, inr, refl, sym, ◌∙◌, ap, subst, arith, length-append, zero-add}
 use Rattle.std.specs.Option.{option_map_or}
-use Rattle.std.specs.List.{AllByRecursion, flat_map}
+use Rattle.std.specs.List.{AllByRecursion}
 use Rattle.std.proofs.lemmas.List.{length-map}
 use Rattle.std.proofs.lemmas.Option.{slice_get_within, get_or_from_slice_get}
-use Rattle.std.proofs.lemmas.Bool.{cases_lt}
 use Rattle.lid_base.specs.Lists.{Among}
-use Rattle.lid_base.proofs.Lists.{among_flat, among_map, get_among, among_get, all_at, map_same}
+use Rattle.lid_base.proofs.Lists.{among_flat, among_map, all_at, map_same}
 use Rattle.lid_design.specs.declared.Design.{Design}
 use Rattle.lid_design.specs.declared.Model.{Model}
 use Rattle.lid_design.specs.Network.{Driver, from_input, from_latch, from_cover, from_connection}
 use Rattle.lid_base.specs.Each.{from_each}
 use Rattle.lid_check_parts.specs.Standing.{IsInput, StandsFor}
-use Rattle.lid_design.specs.Columns.{Column, column, model_at, data_inputs, drivers, root_inputs, root_outputs}
+use Rattle.lid_design.specs.Columns.{Column, column, drivers, root_inputs, root_outputs}
 use Rattle.lid_design.specs.Elaboration.{columns}
-use Rattle.lid_design.specs.Flat.{IsFlat, latch_init}
 use Rattle.lid_design.specs.Loops.{pearls}
 use Rattle.lid_check_elab.specs.Elaborations.{column_at}
 use Rattle.lid_pearl.specs.Pearls.{View}
@@ -24,26 +22,24 @@ use Rattle.lid_system.specs.declared.InBit.{InBit}
 use Rattle.lid_system.specs.declared.InBit.TheVariants as bits
 use Rattle.lid_system.specs.declared.Node.{Node}
 use Rattle.lid_system.specs.declared.Node.TheVariants.{Source, Shell, Sink}
-use Rattle.lid_system.specs.Systems.{Point, source_port, shell_net, ports_of as system_ports, ports_at, IsRead, IsShell, IsSink, IsNode, IsChannel, Precedes, IsWellFormed}
-use Rattle.lid_system.specs.Tables.{carried_at}
+use Rattle.lid_system.specs.Systems.{source_port, shell_net, ports_of as system_ports, ports_at, IsRead, IsShell, IsNode, IsChannel, IsWellFormed}
 use Rattle.lid_net_law.specs.Agreement.{column_of, LeadsBack, IsLed, AreLed, IsPearlShell, IsSystemOf}
-use Rattle.lid_net_law.specs.Ports.{IsPassedOn, outputs_at, ports_of, IsPort}
+use Rattle.lid_net_law.specs.Ports.{outputs_at, ports_of, IsPort}
 use Rattle.lid_net_law.proofs.Leading.{carried_column}
 use Rattle.lid_net_channels.specs.declared.reads.Read.{Read}
-use Rattle.lid_net_channels.specs.Reads.{IsReadBefore, AreAscending}
-use Rattle.lid_net_channels.specs.Pieces.{read_at, reads_in, AreCut, AreChannelsOf}
-use Rattle.lid_net_channels.specs.Bits.{IsBitOf, Carries}
+use Rattle.lid_net_channels.specs.Reads.{AreAscending}
+use Rattle.lid_net_channels.specs.Pieces.{read_at, reads_in, AreChannelsOf}
 use Rattle.lid_net.specs.declared.origin.Origin.{Origin}
 use Rattle.lid_net.specs.declared.origin.Origin.TheVariants.{Const, Port}
 use Rattle.lid_net.specs.Steps.{origin_at}
+use Rattle.lid_net.proofs.Numbering.{same_inputs}
 use Rattle.lid_net.proofs.Rising.{channels_rise, channel_ports, first_port}
-use Rattle.lid_net.specs.declared.part.ShellPart.{ShellPart}
-use Rattle.lid_net.specs.Reads.{read_of}
-use Rattle.lid_net.specs.Nodes.{IsBitFor, IsBitOfOrigin, AreInBits, IsShellFor, AreShellNodes, AreNodes}
-use Rattle.lid_net.specs.Graphs.{inputs_at, inputs_of, LeadsIn, LeadsTo, IsReadBy, IsGraphOf}
-use Rattle.lid_net.specs.PearlParts.{IsShellPartOf, ArePartsOf}
-use Rattle.lid_net.specs.Systems.{AreColumnsLed, AreLeads, AreOutputs, AreNodesOf}
-use Rattle.lid_base.proofs.Places.{item_at, map_get}
+use Rattle.lid_net.specs.declared.ports.ShellPorts.{ShellPorts}
+use Rattle.lid_net.specs.Nodes.{IsBitFor, IsBitOfOrigin, AreInBits, IsShellFor, AreShellNodes}
+use Rattle.lid_net.specs.Graphs.{inputs_at, inputs_of, LeadsIn, IsReadBy, IsGraphOf}
+use Rattle.lid_net.specs.PearlParts.{ArePortsOf}
+use Rattle.lid_net.specs.Systems.{AreLeads, AreNodesOf}
+use Rattle.lid_base.proofs.Places.{item_at, map_get, get_left}
 use Rattle.lid_base.proofs.Alls.{all_from_among}
 use Rattle.lid_base.proofs.Each.{each_map}
 
@@ -89,29 +85,28 @@ bits_read s origins to [] (x ∷ xs) h = absurd h
 bits_read s origins to (k ∷ ks) [] h = absurd h
 bits_read s origins to (k ∷ ks) (x ∷ xs) h = (bit_reads s to (origin_at origins k) x h.0, bits_read s origins to ks xs h.1)
 
--- shells and parts, place by place
-pub record ShellAt (channels : List Channel) (origins : List (Option Origin)) (node j : ℕ) (parts : List ShellPart) (shell : Node) : Type 0 where
-  pub part : ShellPart
-  pub here : slice_get parts j ≡ Some part
-  pub is : IsShellFor channels origins (node + j) part shell
+-- shells and ports, place by place
+pub record ShellAt (d : Design) (channels : List Channel) (origins : List (Option Origin)) (all : List ShellPorts) (i j : ℕ) (shell : Node) : Type 0 where
+  pub ports : ShellPorts
+  pub here : slice_get all j ≡ Some ports
+  pub is : IsShellFor d channels origins i ports shell
 
-shells_long : (channels : List Channel) (origins : List (Option Origin)) (node : ℕ) (parts : List ShellPart) (shells : List Node) → AreShellNodes channels origins node parts shells → length shells ≡ length parts
-shells_long channels origins node [] [] h = refl
-shells_long channels origins node [] (x ∷ xs) h = absurd h
-shells_long channels origins node (p ∷ ps) [] h = absurd h
-shells_long channels origins node (p ∷ ps) (x ∷ xs) h = ap suc (shells_long channels origins (node + 1) ps xs h.1)
+shells_long : (d : Design) (channels : List Channel) (origins : List (Option Origin)) (first : ℕ) (all : List ShellPorts) (shells : List Node) → AreShellNodes d channels origins first all shells → length shells ≡ length all
+shells_long d channels origins first [] [] h = refl
+shells_long d channels origins first [] (x ∷ xs) h = absurd h
+shells_long d channels origins first (p ∷ ps) [] h = absurd h
+shells_long d channels origins first (p ∷ ps) (x ∷ xs) h = ap suc (shells_long d channels origins (first + 1) ps xs h.1)
 
-shell_at : (channels : List Channel) (origins : List (Option Origin)) (node : ℕ) (parts : List ShellPart) (shells : List Node) (j : ℕ) (shell : Node) → AreShellNodes channels origins node parts shells → slice_get shells j ≡ Some shell → ShellAt channels origins node j parts shell
-shell_at channels origins node parts [] j shell h here = absurd (let e : None ≡ Some shell = here in cc)
-shell_at channels origins node [] (x ∷ xs) j shell h here = absurd h
-shell_at channels origins node (p ∷ ps) (x ∷ xs) zero shell h here =
+shell_at : (d : Design) (channels : List Channel) (origins : List (Option Origin)) (first : ℕ) (all : List ShellPorts) (shells : List Node) (i j : ℕ) (shell : Node) → AreShellNodes d channels origins first all shells → slice_get shells j ≡ Some shell → first + j ≡ i → ShellAt d channels origins all i j shell
+shell_at d channels origins first all [] i j shell h here place = absurd (let e : None ≡ Some shell = here in cc)
+shell_at d channels origins first [] (x ∷ xs) i j shell h here place = absurd h
+shell_at d channels origins first (p ∷ ps) (x ∷ xs) i zero shell h here place =
     let e : x ≡ shell = (let f : Some x ≡ Some shell = here in cc) in
-    let n : node ≡ node + 0 = omega arith in
-    record { part = p; here = refl; is = subst (λ (m : ℕ). IsShellFor channels origins m p shell) n (subst (IsShellFor channels origins node p) e h.0) }
-shell_at channels origins node (p ∷ ps) (x ∷ xs) (suc j) shell h here =
-    let at = shell_at channels origins (node + 1) ps xs j shell h.1 here in
-    let n : (node + 1) + j ≡ node + suc j = omega arith in
-    record { part = at.part; here = at.here; is = subst (λ (m : ℕ). IsShellFor channels origins m at.part shell) n at.is }
+    let n : first ≡ i = omega arith in
+    record { ports = p; here = refl; is = subst (λ (m : ℕ). IsShellFor d channels origins m p shell) n (subst (IsShellFor d channels origins first p) e h.0) }
+shell_at d channels origins first (p ∷ ps) (x ∷ xs) i (suc j) shell h here place =
+    let at = shell_at d channels origins (first + 1) ps xs i j shell h.1 here (omega arith) in
+    record { ports = at.ports; here = at.here; is = at.is }
 
 -- which node stands at a place
 pub data Standing (inputs outputs : List (List ℕ)) (shells : List Node) (ins : List InBit) (i : ℕ) (node : Node) : Type 0 where
@@ -131,24 +126,6 @@ standing inputs outputs shells ins (suc i) node here = by shells i here
 
     by : (xs : List Node) (j : ℕ) → slice_get (xs ++ Sink outputs ins ∷ []) j ≡ Some node → Standing inputs outputs xs ins (suc j) node
     by xs j h = elim (split xs j h) [ inl e ↦ inner j (omega arith) e | inr e ↦ final (let l = e.0 in omega arith) e.1 ]
-
--- the shell of a part
-part_shell : (channels : List Channel) (origins : List (Option Origin)) (node : ℕ) (parts : List ShellPart) (shells : List Node) (j : ℕ) (part : ShellPart) → AreShellNodes channels origins node parts shells → slice_get parts j ≡ Some part → (shell : Node) × (slice_get shells j ≡ Some shell) × IsShellFor channels origins (node + j) part shell
-part_shell channels origins node [] xs j part h here = absurd (let e : None ≡ Some part = here in cc)
-part_shell channels origins node (p ∷ ps) [] j part h here = absurd h
-part_shell channels origins node (p ∷ ps) (x ∷ xs) zero part h here =
-    let e : p ≡ part = (let f : Some p ≡ Some part = here in cc) in
-    let n : node ≡ node + 0 = omega arith in
-    (x, refl, subst (λ (m : ℕ). IsShellFor channels origins m part x) n (subst (λ (q : ShellPart). IsShellFor channels origins node q x) e h.0))
-part_shell channels origins node (p ∷ ps) (x ∷ xs) (suc j) part h here =
-    let at = part_shell channels origins (node + 1) ps xs j part h.1 here in
-    let n : (node + 1) + j ≡ node + suc j = omega arith in
-    (at.0, at.1, subst (λ (m : ℕ). IsShellFor channels origins m part at.0) n at.2)
-
-get_left : (xs ys : List Node) (j : ℕ) (x : Node) → slice_get xs j ≡ Some x → slice_get (xs ++ ys) j ≡ Some x
-get_left [] ys j x h = absurd (let e : None ≡ Some x = h in cc)
-get_left (y ∷ xs) ys zero x h = h
-get_left (y ∷ xs) ys (suc j) x h = get_left xs ys j x h
 
 map_twice : {A B C : Type 0} (f : A → B) (g : B → C) (xs : List A) → map g (map f xs) ≡ map (λ x. g (f x)) xs
 map_twice f g [] = refl
@@ -197,39 +174,46 @@ reader_node d (suc i) c h = by (eqb i (length (pearls d))) refl h
         at None g h = absurd h
         at (Some path) g h = let less = slice_get_within (pearls d) i path g in (omega arith, omega arith)
 
-module _ (d : Design) (parts : List ShellPart) (origins : List (Option Origin)) (channels : List Channel) (nodes : List Node) (reads : List Read)
-    (are : ArePartsOf d (length (columns d)) parts) (leads : AreLeads d origins reads) (cut : AreChannelsOf reads channels) (made : AreNodesOf d parts origins channels nodes)
+module _ (d : Design) (all : List ShellPorts) (origins : List (Option Origin)) (channels : List Channel) (nodes : List Node) (reads : List Read)
+    (are : ArePortsOf d (length (columns d)) all) (leads : AreLeads d origins reads) (cut : AreChannelsOf reads channels) (made : AreNodesOf d all origins channels nodes)
     (few_channels : length channels ≤ 16384) (few : length (pearls d) ≤ 4096) where
   abbrev pub s : System
   s = record { nodes = nodes; channels = channels }
 
-  pub at_part : (j : ℕ) (o : Option ShellPart) → slice_get parts j ≡ o → ℕ → Column
-  at_part j None e k = column [] []
-  at_part j (Some p) e k = (are.each j p e).col k
+  abbrev Shelled : ℕ → Node → Type 0
+  Shelled j shell = ShellAt d channels origins all j j shell
+
+  -- the shell of a pearl
+  shelled : (j : ℕ) (shell : Node) → slice_get made.are.shells j ≡ Some shell → Shelled j shell
+  shelled j shell here = shell_at d channels origins 0 all made.are.shells j j shell made.are.each here (zero-add j)
+
+  pub at_shell : (j : ℕ) (o : Option Node) → slice_get made.are.shells j ≡ o → ℕ → Column
+  at_shell j None e k = column [] []
+  at_shell j (Some shell) e k = (shelled j shell e).is.of.col k
 
   abbrev pub cols : ℕ → ℕ → Column
   cols zero k = column [] []
-  cols (suc j) k = at_part j (slice_get parts j) refl k
+  cols (suc j) k = at_shell j (slice_get made.are.shells j) refl k
 
-  record Picked (j : ℕ) (part : ShellPart) : Type 0 where
-    pub is : IsShellPartOf d (length (columns d)) j part
-    pub col : (k : ℕ) → cols (suc j) k ≡ is.col k
+  record Picked (j : ℕ) (shell : Node) : Type 0 where
+    pub at : Shelled j shell
+    pub col : (k : ℕ) → cols (suc j) k ≡ at.is.of.col k
 
-  picked : (j : ℕ) (part : ShellPart) → slice_get parts j ≡ Some part → Picked j part
-  unfolding at_part
-  picked j part here = let got = by (slice_get parts j) refl here in record { is = got.0; col = got.1 }
+  picked : (j : ℕ) (shell : Node) → slice_get made.are.shells j ≡ Some shell → Picked j shell
+  unfolding at_shell
+  picked j shell here = let got = by (slice_get made.are.shells j) refl here in record { at = got.0; col = got.1 }
     where
-      by : (o : Option ShellPart) (e : slice_get parts j ≡ o) → o ≡ Some part → (q : IsShellPartOf d (length (columns d)) j part) × ((k : ℕ) → at_part j o e k ≡ q.col k)
-      by None e h = absurd (let f : None ≡ Some part = h in cc)
-      by (Some p) e h =
-          let same : p ≡ part = (let f : Some p ≡ Some part = h in cc) in
-          subst (λ (r : ShellPart). (q : IsShellPartOf d (length (columns d)) j r) × ((k : ℕ) → at_part j (Some p) e k ≡ q.col k)) same (are.each j p e, λ k. refl)
+      by : (o : Option Node) (e : slice_get made.are.shells j ≡ o) → o ≡ Some shell → (at : Shelled j shell) × ((k : ℕ) → at_shell j o e k ≡ at.is.of.col k)
+      by None e h = absurd (let f : None ≡ Some shell = h in cc)
+      by (Some x) e h =
+          let same : x ≡ shell = (let f : Some x ≡ Some shell = h in cc) in
+          subst (λ (y : Node). (at : Shelled j y) × ((k : ℕ) → at_shell j (Some x) e k ≡ at.is.of.col k)) same (shelled j x e, λ k. refl)
 
   nodes_are : (i : ℕ) (node : Node) → slice_get nodes i ≡ Some node → Standing (root_inputs d) (root_outputs d) made.are.shells made.are.ins i node
   nodes_are i node here = standing (root_inputs d) (root_outputs d) made.are.shells made.are.ins i node (ap (λ (ns : List Node). slice_get ns i) (sym made.are.is) ∙ here)
 
-  shells_are : length made.are.shells ≡ length parts
-  shells_are = shells_long channels origins 1 parts made.are.shells made.are.each
+  shells_are : length made.are.shells ≡ length all
+  shells_are = shells_long d channels origins 0 all made.are.shells made.are.each
 
   nodes_long : length nodes ≡ length (pearls d) + 2
   nodes_long =
@@ -242,14 +226,8 @@ module _ (d : Design) (parts : List ShellPart) (origins : List (Option Origin)) 
   first_node : slice_get nodes 0 ≡ Some (Source (root_inputs d))
   first_node = ap (λ (ns : List Node). slice_get ns 0) made.are.is
 
-  shell_node : (j : ℕ) (part : ShellPart) → slice_get parts j ≡ Some part → (ins : List InBit) × (slice_get nodes (suc j) ≡ Some (Shell part.pearl ins))
-  shell_node j part here =
-      let at = part_shell channels origins 1 parts made.are.shells j part made.are.each here in (
-        at.2.ins,
-        ap (λ (ns : List Node). slice_get ns (suc j)) made.are.is
-            ∙ get_left made.are.shells (Sink (root_outputs d) made.are.ins ∷ []) j at.0 at.1
-            ∙ ap Some at.2.is,
-      )
+  shell_node : (j : ℕ) (shell : Node) → slice_get made.are.shells j ≡ Some shell → slice_get nodes (suc j) ≡ Some shell
+  shell_node j shell here = ap (λ (ns : List Node). slice_get ns (suc j)) made.are.is ∙ get_left made.are.shells (Sink (root_outputs d) made.are.ins ∷ []) j shell here
 
   -- the ports of the nodes of the system stand for those of the design
   port_columns : (node : ℕ) → node ≤ length (pearls d) → map (column_of d cols) (ports_at s node) ≡ ports_of d node
@@ -260,22 +238,23 @@ module _ (d : Design) (parts : List ShellPart) (origins : List (Option Origin)) 
       ∙ map_twice source_port (column_of d cols) (from_each (λ j. j) 0 (length (root_inputs d)))
       ∙ source_columns d cols (root_inputs d) (root_inputs d) 0 (λ j name here. (let e : 0 + j ≡ j = zero-add j in ap (λ (n : ℕ). get_or (root_inputs d) n []) e) ∙ get_or_from_slice_get (root_inputs d) j name [] here)
   port_columns (suc j) h =
-      let part = item_at parts j (let l = are.long in omega arith) in
-      let shell = shell_node j part.0 part.1 in
-      let pick = picked j part.0 part.1 in
-      ap (λ (o : Option Node). map (column_of d cols) (option_map_or (system_ports (suc j)) o [])) shell.1
-      ∙ map_twice (shell_net (suc j)) (column_of d cols) part.0.pearl.flat.outs
-      ∙ map_same (cols (suc j)) pick.is.col part.0.pearl.flat.outs (λ x among. pick.col x)
-      ∙ pick.is.outputs
-      ∙ sym (ap (λ (o : Option (List ℕ)). option_map_or (outputs_at d) o []) pick.is.here ∙ ap (λ (o : Option Model). option_map_or (λ m. map (column pick.is.path) m.outputs) o []) pick.is.body)
+      let shell = item_at made.are.shells j (let l = are.long in let m = shells_are in omega arith) in
+      let pick = picked j shell.0 shell.1 in
+      let is = pick.at.is in
+      let of = is.of in
+      ap (λ (o : Option Node). map (column_of d cols) (option_map_or (system_ports (suc j)) o [])) (shell_node j shell.0 shell.1 ∙ ap Some is.is)
+      ∙ map_twice (shell_net (suc j)) (column_of d cols) is.pearl.flat.outs
+      ∙ map_same (cols (suc j)) of.col is.pearl.flat.outs (λ x among. pick.col x)
+      ∙ of.outputs
+      ∙ sym (ap (λ (o : Option (List ℕ)). option_map_or (outputs_at d) o []) of.here ∙ ap (λ (o : Option Model). option_map_or (λ m. map (column of.path) m.outputs) o []) of.body)
 
   -- what a column is led back to, as what an input reads
   back : (to n : ℕ) (c : Column) (o : Origin) (x : InBit) → LeadsIn d n c o → IsBitOfOrigin channels to (Some o) x → LeadsBack d s cols n c x
   back to zero c (Const bit) x h is = subst (LeadsBack d s cols zero c) (sym is) h
   back to zero c (Port node place) (bits.Const bit) h is = absurd is
   back to zero c (Port node place) (bits.Port chan bit) h is =
-      let ports = ap (λ (m : ℕ). map (column_of d cols) (ports_at s m)) is.from ∙ port_columns node (port_node d c node place h) in
-      sym (carried_column d s cols chan bit place is.c c is.here is.port (ap (λ (cs : List Column). slice_get cs place) ports ∙ h))
+      let same = ap (λ (m : ℕ). map (column_of d cols) (ports_at s m)) is.from ∙ port_columns node (port_node d c node place h) in
+      sym (carried_column d s cols chan bit place is.c c is.here is.port (ap (λ (cs : List Column). slice_get cs place) same ∙ h))
   back to (suc n) c o x h is = (h.0, h.1, h.2, back to n h.1 o x h.3 is)
 
   led : (to k : ℕ) (x : InBit) → k < length (columns d) → IsBitFor channels origins to k x → IsLed d s cols (column_at d k) x
@@ -291,53 +270,45 @@ module _ (d : Design) (parts : List ShellPart) (origins : List (Option Origin)) 
       subst (λ (a : Column). IsLed d s cols a x) (sym at.2)
       (led to at.0 x (all_at (λ k. k < length (columns d)) ks j at.0 below at.1) (bits_at channels origins to ks xs j at.0 x is at.1 there))
 
-  -- the shell of a node
-  record Shelled (i : ℕ) (pearl : View) (ins : List InBit) : Type 0 where
+  -- the place of the shell that a node is
+  record Placed (i : ℕ) (pearl : View) (ins : List InBit) : Type 0 where
     pub j : ℕ
     pub place : i ≡ suc j
-    pub part : ShellPart
-    pub here : slice_get parts j ≡ Some part
-    pub pearl_is : pearl ≡ part.pearl
-    pub bits : AreInBits channels origins i part.ins ins
+    pub here : slice_get made.are.shells j ≡ Some (Shell pearl ins)
 
-  shelled : (i : ℕ) (pearl : View) (ins : List InBit) → slice_get nodes i ≡ Some (Shell pearl ins) → Shelled i pearl ins
-  shelled i pearl ins here = by (nodes_are i (Shell pearl ins) here)
+  placed : (i : ℕ) (pearl : View) (ins : List InBit) → slice_get nodes i ≡ Some (Shell pearl ins) → Placed i pearl ins
+  placed i pearl ins here = by (nodes_are i (Shell pearl ins) here)
     where
-      by : Standing (root_inputs d) (root_outputs d) made.are.shells made.are.ins i (Shell pearl ins) → Shelled i pearl ins
+      by : Standing (root_inputs d) (root_outputs d) made.are.shells made.are.ins i (Shell pearl ins) → Placed i pearl ins
       by (first e is) = absurd (let f : Shell pearl ins ≡ Source (root_inputs d) = is in cc)
       by (final e is) = absurd (let f : Shell pearl ins ≡ Sink (root_outputs d) made.are.ins = is in cc)
-      by (inner j e at) =
-          let shell = shell_at channels origins 1 parts made.are.shells j (Shell pearl ins) made.are.each at in
-          let same : Shell pearl ins ≡ Shell shell.part.pearl shell.is.ins = shell.is.is in
-          let p : pearl ≡ shell.part.pearl = cc in
-          let x : shell.is.ins ≡ ins = cc in
-          let n : 1 + j ≡ i = omega arith in
-          record {
-            j = j;
-            place = omega arith;
-            part = shell.part;
-            here = shell.here;
-            pearl_is = p;
-            bits = subst (λ (m : ℕ). AreInBits channels origins m shell.part.ins ins) n (subst (λ (xs : List InBit). AreInBits channels origins (1 + j) shell.part.ins xs) x shell.is.bits);
-          }
+      by (inner j e at) = record { j = j; place = omega arith; here = at }
 
   shell_of : (i : ℕ) (pearl : View) (ins : List InBit) → slice_get nodes i ≡ Some (Shell pearl ins) → IsPearlShell d s cols i pearl ins
   shell_of i pearl ins here =
-      let at = shelled i pearl ins here in
-      let pick = picked at.j at.part at.here in
-      let q = pick.is in
-      subst (λ (p : View). IsPearlShell d s cols i p ins) (sym at.pearl_is)
-      (subst (λ (m : ℕ). IsPearlShell d s cols m at.part.pearl ins) (sym at.place) (record {
+      let at = placed i pearl ins here in
+      let pick = picked at.j (Shell pearl ins) at.here in
+      let is = pick.at.is in
+      let of = is.of in
+      let ports = are.each at.j pick.at.ports pick.at.here in
+      let same : Shell pearl ins ≡ Shell is.pearl is.ins = is.is in
+      let p : is.pearl ≡ pearl = cc in
+      let x : is.ins ≡ ins = cc in
+      subst (λ (v : View). IsPearlShell d s cols i v ins) p
+      (subst (λ (m : ℕ). IsPearlShell d s cols m is.pearl ins) (sym at.place) (record {
         number = at.j;
         place = omega arith;
-        path = q.path;
-        here = q.here;
-        model = q.model;
-        body = q.body;
-        inputs = map_same (cols (suc at.j)) q.col at.part.pearl.flat.ins (λ x among. pick.col x) ∙ q.inputs;
-        outputs = map_same (cols (suc at.j)) q.col at.part.pearl.flat.outs (λ x among. pick.col x) ∙ q.outputs;
-        each = λ k r among. stands_same (drivers d) (cols (suc at.j)) q.col pick.col k r (q.each k r among);
-        led = subst (λ (cs : List Column). AreLed d s cols cs ins) (q.ins ∙ sym q.inputs ∙ sym (map_same (cols (suc at.j)) q.col at.part.pearl.flat.ins (λ x among. pick.col x))) (all_led i at.part.ins ins q.ins_below at.bits);
+        path = of.path;
+        here = of.here;
+        model = of.model;
+        body = of.body;
+        inputs = map_same (cols (suc at.j)) of.col is.pearl.flat.ins (λ x among. pick.col x) ∙ of.inputs;
+        outputs = map_same (cols (suc at.j)) of.col is.pearl.flat.outs (λ x among. pick.col x) ∙ of.outputs;
+        each = λ k r among. stands_same (drivers d) (cols (suc at.j)) of.col pick.col k r (of.each k r among);
+        led =
+            subst (λ (cs : List Column). AreLed d s cols cs ins)
+            (same_inputs d (length (columns d)) at.j pick.at.ports is.pearl ports of ∙ sym (map_same (cols (suc at.j)) of.col is.pearl.flat.ins (λ x among. pick.col x)))
+            (all_led (at.j + 1) pick.at.ports.ins ins ports.ins_below (subst (λ (xs : List InBit). AreInBits channels origins (at.j + 1) pick.at.ports.ins xs) x is.bits));
       }))
 
   system_is : IsSystemOf d s
@@ -352,20 +323,20 @@ module _ (d : Design) (parts : List ShellPart) (origins : List (Option Origin)) 
       source_at : (i : ℕ) (names : List (List ℕ)) → Standing (root_inputs d) (root_outputs d) made.are.shells made.are.ins i (Source names) → names ≡ root_inputs d
       source_at i names (first e is) = let f : Source names ≡ Source (root_inputs d) = is in cc
       source_at i names (inner j e at) =
-          let shell = shell_at channels origins 1 parts made.are.shells j (Source names) made.are.each at in
-          absurd (let f : Source names ≡ Shell shell.part.pearl shell.is.ins = shell.is.is in cc)
+          let shell = shelled j (Source names) at in
+          absurd (let f : Source names ≡ Shell shell.is.pearl shell.is.ins = shell.is.is in cc)
       source_at i names (final e is) = absurd (let f : Source names ≡ Sink (root_outputs d) made.are.ins = is in cc)
 
       sink_at : (i : ℕ) (names : List (List ℕ)) (ins : List InBit) → Standing (root_inputs d) (root_outputs d) made.are.shells made.are.ins i (Sink names ins) → (names ≡ root_outputs d) × AreLed d s cols (map (column []) (root_outputs d)) ins
       sink_at i names ins (first e is) = absurd (let f : Sink names ins ≡ Source (root_inputs d) = is in cc)
       sink_at i names ins (inner j e at) =
-          let shell = shell_at channels origins 1 parts made.are.shells j (Sink names ins) made.are.each at in
-          absurd (let f : Sink names ins ≡ Shell shell.part.pearl shell.is.ins = shell.is.is in cc)
+          let shell = shelled j (Sink names ins) at in
+          absurd (let f : Sink names ins ≡ Shell shell.is.pearl shell.is.ins = shell.is.is in cc)
       sink_at i names ins (final e is) =
           let f : Sink names ins ≡ Sink (root_outputs d) made.are.ins = is in
           let n : names ≡ root_outputs d = cc in
           let x : made.are.ins ≡ ins = cc in
-          (n, subst (λ (cs : List Column). AreLed d s cols cs ins) made.outputs.columns_are (subst (λ (xs : List InBit). AreLed d s cols (map (column_at d) made.numbers) xs) x (all_led (length parts + 1) made.numbers made.are.ins made.outputs.below made.are.bits)))
+          (n, subst (λ (cs : List Column). AreLed d s cols cs ins) made.outputs.columns_are (subst (λ (xs : List InBit). AreLed d s cols (map (column_at d) made.numbers) xs) x (all_led (length all + 1) made.numbers made.are.ins made.outputs.below made.are.bits)))
 
   read_in : (c : Channel) (port : ℕ) → Among c channels → Among port c.ports → IsReadBy d (read_at c port)
   read_in c port here there = (leads.exact (read_at c port)).0 (subst (λ (rs : List Read). Among (read_at c port) rs) cut.carry (among_flat reads_in c (read_at c port) channels here (among_map (read_at c) port c.ports there)))
@@ -396,34 +367,35 @@ module _ (d : Design) (parts : List ShellPart) (origins : List (Option Origin)) 
   node_is : (i : ℕ) (node : Node) → slice_get nodes i ≡ Some node → IsNode s i node
   node_is i node here = by (nodes_are i node here)
     where
-      shell_ok : (j : ℕ) → i ≡ suc j → (part : ShellPart) → slice_get parts j ≡ Some part → (ins : List InBit) → AreInBits channels origins i part.ins ins → IsShell s i part.pearl ins
-      shell_ok j e part at ins bits =
-          let is = are.each j part at in
-          let inside = slice_get_within parts j part at in
+      shell_ok : (j : ℕ) → i ≡ suc j → (shell : Node) → Shelled j shell → IsNode s i shell
+      shell_ok j e shell at =
+          let is = at.is in
+          let of = is.of in
+          let inside = slice_get_within all j at.ports at.here in
           let long = nodes_long in
           let count = are.long in
-          let a = bits_long channels origins i part.ins ins bits in
-          let b = sym (length-map part.ins (column_at d)) ∙ ap length (is.ins ∙ sym is.inputs) ∙ length-map part.pearl.flat.ins is.col in
-          record {
+          let n : j + 1 ≡ i = omega arith in
+          let bits = subst (λ (m : ℕ). AreInBits channels origins m at.ports.ins is.ins) n is.bits in
+          let a = bits_long channels origins i at.ports.ins is.ins bits in
+          let b = sym (length-map at.ports.ins (column_at d)) ∙ ap length (same_inputs d (length (columns d)) j at.ports is.pearl (are.each j at.ports at.here) of) ∙ length-map is.pearl.flat.ins of.col in
+          let ok : IsShell s i is.pearl is.ins = record {
             after_source = omega arith;
             before_sink = omega arith;
-            rules = is.rules;
-            begins = is.begins;
+            rules = of.rules;
+            begins = of.begins;
             width = sym a ∙ b;
-            reads = bits_read s origins i part.ins ins bits;
-          }
+            reads = bits_read s origins i at.ports.ins is.ins bits;
+          } in
+          subst (IsNode s i) (sym is.is) ok
 
       by : Standing (root_inputs d) (root_outputs d) made.are.shells made.are.ins i node → IsNode s i node
       by (first e is) = subst (IsNode s i) (sym is) e
-      by (inner j e at) =
-          let shell = shell_at channels origins 1 parts made.are.shells j node made.are.each at in
-          let n : 1 + j ≡ i = omega arith in
-          subst (IsNode s i) (sym shell.is.is) (shell_ok j (omega arith) shell.part shell.here shell.is.ins (subst (λ (m : ℕ). AreInBits channels origins m shell.part.ins shell.is.ins) n shell.is.bits))
+      by (inner j e at) = shell_ok j (omega arith) node (shelled j node at)
       by (final e is) =
           let long = nodes_long in
           let count = are.long in
           let same = shells_are in
-          let n : length parts + 1 ≡ i = omega arith in
+          let n : length all + 1 ≡ i = omega arith in
           let bits = subst (λ (m : ℕ). AreInBits channels origins m made.numbers made.are.ins) n made.are.bits in
           let a = bits_long channels origins i made.numbers made.are.ins bits in
           let b = sym (length-map made.numbers (column_at d)) ∙ ap length made.outputs.columns_are ∙ length-map (root_outputs d) (column []) in
@@ -446,8 +418,8 @@ module _ (d : Design) (parts : List ShellPart) (origins : List (Option Origin)) 
       }
 
 -- what is joined from the channels of some reads is the system of the design, and well formed
-pub joined : (d : Design) (parts : List ShellPart) (origins : List (Option Origin)) (channels seen : List Channel) (nodes : List Node) (reads read : List Read) → ArePartsOf d (length (columns d)) parts → AreLeads d origins reads → read ≡ reads → AreChannelsOf read channels → seen ≡ channels → AreNodesOf d parts origins seen nodes → length channels ≤ 16384 → IsSystemOf d (record { nodes = nodes; channels = channels }) × IsWellFormed (record { nodes = nodes; channels = channels })
-joined d parts origins channels seen nodes reads read are leads same cut shown made few =
+pub joined : (d : Design) (all : List ShellPorts) (origins : List (Option Origin)) (channels seen : List Channel) (nodes : List Node) (reads read : List Read) → ArePortsOf d (length (columns d)) all → AreLeads d origins reads → read ≡ reads → AreChannelsOf read channels → seen ≡ channels → AreNodesOf d all origins seen nodes → length channels ≤ 16384 → IsSystemOf d (record { nodes = nodes; channels = channels }) × IsWellFormed (record { nodes = nodes; channels = channels })
+joined d all origins channels seen nodes reads read are leads same cut shown made few =
     let cuts = subst (λ (rs : List Read). AreChannelsOf rs channels) same cut in
-    let makes = subst (λ (cs : List Channel). AreNodesOf d parts origins cs nodes) shown made in
-    (system_is d parts origins channels nodes reads are leads cuts makes few are.few, formed d parts origins channels nodes reads are leads cuts makes few are.few)
+    let makes = subst (λ (cs : List Channel). AreNodesOf d all origins cs nodes) shown made in
+    (system_is d all origins channels nodes reads are leads cuts makes few are.few, formed d all origins channels nodes reads are leads cuts makes few are.few)

@@ -1,9 +1,8 @@
 -- The marks of the ports of shells.
-use Rattle.std.proofs.Common.{◌≡◌, ◌<◌, ◌≤◌, ◌⊎◌, ◌+◌, ℕ, zero, suc, List, [], ◌∷◌, length, map, set, get_or, Option, Some, None, slice_get, inl, inr, refl, sym, ◌∙◌, ap, subst, arith}
+use Rattle.std.proofs.Common.{◌≡◌, ◌<◌, ◌⊎◌, ◌+◌, ℕ, zero, suc, List, [], ◌∷◌, length, map, set, Option, Some, None, slice_get, inl, inr, refl, sym, ◌∙◌, ap, arith}
 use Rattle.std.specs.Option.{option_map_or}
-use Rattle.std.specs.List.{AllByRecursion}
 use Rattle.std.proofs.lemmas.List.{length-set, get_or-set_same}
-use Rattle.std.proofs.lemmas.Option.{slice_get_within, slice_get-get_or}
+use Rattle.std.proofs.lemmas.Option.{slice_get_within}
 use Rattle.lid_design.specs.declared.Design.{Design}
 use Rattle.lid_design.specs.declared.Model.{Model}
 use Rattle.lid_design.specs.Columns.{Column, column}
@@ -11,12 +10,12 @@ use Rattle.lid_design.specs.Elaboration.{columns}
 use Rattle.lid_design.specs.Loops.{pearls}
 use Rattle.lid_check_elab.specs.Elaborations.{column_at}
 use Rattle.lid_net.specs.declared.origin.Origin.{Origin}
-use Rattle.lid_net.specs.declared.origin.Origin.TheVariants.{Const, Port}
+use Rattle.lid_net.specs.declared.origin.Origin.TheVariants.{Port}
 use Rattle.lid_net.specs.Steps.{origin_at}
-use Rattle.lid_net.specs.declared.part.ShellPart.{ShellPart}
-use Rattle.lid_net.specs.Marks.{part_outs, marked_from, marked_all}
+use Rattle.lid_net.specs.declared.ports.ShellPorts.{ShellPorts}
+use Rattle.lid_net.specs.Marks.{outs_of, marked_from, marked_all}
 use Rattle.lid_net_law.specs.Ports.{outputs_at, ports_of, IsPort}
-use Rattle.lid_net.specs.PearlParts.{IsShellPartOf, ArePartsOf}
+use Rattle.lid_net.specs.PearlParts.{AreShellPorts, ArePortsOf}
 use Rattle.lid_net.proofs.Tracing.{AreShellMarks}
 use Rattle.lid_base.proofs.Lists.{all_at}
 use Rattle.lid_base.proofs.Places.{item_at, map_get, get_map}
@@ -115,10 +114,10 @@ all_all node (xs ∷ all) marks zero j k outs less there here =
 all_all node (xs ∷ all) marks (suc i) j k outs less there here =
     all_all (node + 1) all (marked_from node 0 xs marks) i j k outs (let l = from_long node 0 xs marks in omega arith) there here
 
--- the ports of a shell, by the numbers of a part
-pub ports_are : (d : Design) (count i : ℕ) (part : ShellPart) → IsShellPartOf d count i part → ports_of d (suc i) ≡ map (column_at d) part.outs
+-- the ports of a shell, by the numbers of their columns
+pub ports_are : (d : Design) (count i : ℕ) (shell : ShellPorts) → AreShellPorts d count i shell → ports_of d (suc i) ≡ map (column_at d) shell.outs
 unfolding ports_of
-ports_are d count i part is =
+ports_are d count i shell is =
     ap (λ (o : Option (List ℕ)). option_map_or (outputs_at d) o []) is.here ∙ ap (λ (o : Option Model). option_map_or (λ m. map (column is.path) m.outputs) o []) is.body ∙ sym is.outs
 
 shell_pearl : (d : Design) (c : Column) (i place : ℕ) → IsPort d c (suc i) place → i < length (pearls d)
@@ -130,31 +129,31 @@ shell_pearl d c i place h = by (slice_get (pearls d) i) refl h
     by (Some path) e g = slice_get_within (pearls d) i path e
 
 pub shell_marks :
-    (d : Design) (parts : List ShellPart) (old new : Marks) (count : ℕ) → ArePartsOf d (length (columns d)) parts → count ≡ length (columns d) → ((j k : ℕ) → j < count → k < count → column_at d j ≡ column_at d k → j ≡ k)
-    → length old ≡ count → ((k : ℕ) → origin_at old k ≡ None) → new ≡ marked_all 1 (map part_outs parts) old → AreShellMarks d count new
-shell_marks d parts old new count are whole apart size none is = record { only = only; all = all }
+    (d : Design) (ports : List ShellPorts) (old new : Marks) (count : ℕ) → ArePortsOf d (length (columns d)) ports → count ≡ length (columns d) → ((j k : ℕ) → j < count → k < count → column_at d j ≡ column_at d k → j ≡ k)
+    → length old ≡ count → ((k : ℕ) → origin_at old k ≡ None) → new ≡ marked_all 1 (map outs_of ports) old → AreShellMarks d count new
+shell_marks d ports old new count are whole apart size none is = record { only = only; all = all }
   where
     only : (k : ℕ) (o : Origin) → k < count → origin_at new k ≡ Some o → (i : ℕ) × (place : ℕ) × (o ≡ Port (suc i) place) × IsPort d (column_at d k) (suc i) place
-    only k o less e = by (all_only 1 (map part_outs parts) old k o (ap (λ (ms : Marks). origin_at ms k) (sym is) ∙ e))
+    only k o less e = by (all_only 1 (map outs_of ports) old k o (ap (λ (ms : Marks). origin_at ms k) (sym is) ∙ e))
       where
-        by : (origin_at old k ≡ Some o) ⊎ IsOneOf 1 (map part_outs parts) k o → (i : ℕ) × (place : ℕ) × (o ≡ Port (suc i) place) × IsPort d (column_at d k) (suc i) place
+        by : (origin_at old k ≡ Some o) ⊎ IsOneOf 1 (map outs_of ports) k o → (i : ℕ) × (place : ℕ) × (o ≡ Port (suc i) place) × IsPort d (column_at d k) (suc i) place
         by (inl h) = absurd (let f : None ≡ Some o = sym (none k) ∙ h in cc)
         by (inr h) =
-            let part = map_get part_outs parts h.i h.outs h.there in
-            let of = are.each h.i part.0 part.1 in
+            let shell = map_get outs_of ports h.i h.outs h.there in
+            let of = are.each h.i shell.0 shell.1 in
             let n : 1 + h.i ≡ suc h.i = omega arith in (
               h.i,
               h.j,
               h.is ∙ ap (λ (x : ℕ). Port x h.j) n,
-              ap (λ (cs : List Column). slice_get cs h.j) (ports_are d (length (columns d)) h.i part.0 of) ∙ get_map (column_at d) part.0.outs h.j k (ap (λ (xs : List ℕ). slice_get xs h.j) (sym part.2) ∙ h.here),
+              ap (λ (cs : List Column). slice_get cs h.j) (ports_are d (length (columns d)) h.i shell.0 of) ∙ get_map (column_at d) shell.0.outs h.j k (ap (λ (xs : List ℕ). slice_get xs h.j) (sym shell.2) ∙ h.here),
             )
 
     all : (k i place : ℕ) → k < count → IsPort d (column_at d k) (suc i) place → origin_at new k ≡ None → ⊥
     all k i place less port e =
-        let part = item_at parts i (let h = shell_pearl d (column_at d k) i place port in let l = are.long in omega arith) in
-        let of = are.each i part.0 part.1 in
-        let at = map_get (column_at d) part.0.outs place (column_at d k) (ap (λ (cs : List Column). slice_get cs place) (sym (ports_are d (length (columns d)) i part.0 of)) ∙ port) in
-        let inside = all_at (λ k. k < length (columns d)) part.0.outs place at.0 of.outs_below at.1 in
+        let shell = item_at ports i (let h = shell_pearl d (column_at d k) i place port in let l = are.long in omega arith) in
+        let of = are.each i shell.0 shell.1 in
+        let at = map_get (column_at d) shell.0.outs place (column_at d k) (ap (λ (cs : List Column). slice_get cs place) (sym (ports_are d (length (columns d)) i shell.0 of)) ∙ port) in
+        let inside = all_at (λ k. k < length (columns d)) shell.0.outs place at.0 of.outs_below at.1 in
         let same = apart k at.0 less (omega arith) at.2 in
-        let mark = all_all 1 (map part_outs parts) old i place k part.0.outs (omega arith) (get_map part_outs parts i part.0 part.1) (at.1 ∙ ap Some (sym same)) in
+        let mark = all_all 1 (map outs_of ports) old i place k shell.0.outs (omega arith) (get_map outs_of ports i shell.0 shell.1) (at.1 ∙ ap Some (sym same)) in
         absurd (let f : None ≡ Some mark.0 = sym e ∙ ap (λ (ms : Marks). origin_at ms k) is ∙ mark.1 in cc)

@@ -6,7 +6,7 @@ use Rattle.std.proofs.lemmas.List.{length-map}
 use Rattle.std.proofs.lemmas.Bool.{cases_lt}
 use Rattle.std.proofs.lemmas.Option.{slice_get_within}
 use Rattle.lid_base.specs.Lists.{Among}
-use Rattle.lid_base.proofs.Lists.{all_among, among_left, among_right, among_append, among_flat, flat_among, among_map, map_among, get_among, among_get}
+use Rattle.lid_base.proofs.Lists.{all_among, among_left, among_right, among_append, among_flat, flat_among, among_map, map_among}
 use Rattle.lid_design.specs.declared.Design.{Design}
 use Rattle.lid_design.specs.declared.Model.{Model}
 use Rattle.lid_design.specs.Columns.{Column, column, data_inputs, root_outputs}
@@ -18,13 +18,13 @@ use Rattle.lid_net_channels.specs.Reads.{AreAscending}
 use Rattle.lid_net.specs.declared.origin.Origin.{Origin}
 use Rattle.lid_net.specs.declared.origin.Origin.TheVariants.{Const, Port}
 use Rattle.lid_net.specs.Steps.{origin_at}
-use Rattle.lid_net.specs.declared.part.ShellPart.{ShellPart}
+use Rattle.lid_net.specs.declared.ports.ShellPorts.{ShellPorts}
 use Rattle.lid_net.specs.declared.nodes.Wiring.{Wiring}
-use Rattle.lid_net.specs.Marks.{part_ins}
+use Rattle.lid_net.specs.Marks.{ins_of}
 use Rattle.lid_net.specs.Reads.{read_of, origin_read, read_at, all_reads}
 use Rattle.lid_net.specs.Nodes.{IsReadable, CanRead, CanReadAll}
 use Rattle.lid_net.specs.Graphs.{inputs_at, inputs_of, LeadsTo, IsReadBy}
-use Rattle.lid_net.specs.PearlParts.{IsShellPartOf, ArePartsOf}
+use Rattle.lid_net.specs.PearlParts.{ArePortsOf}
 use Rattle.lid_net.specs.Systems.{AreColumnsLed, AreLeads, AreOutputs}
 use Rattle.lid_net.proofs.Joining.{reader_node}
 use Rattle.lid_base.proofs.Places.{item_at, map_get, get_last, get_map, get_push, get_left}
@@ -73,19 +73,19 @@ reads_all origins to (xs ∷ all) (suc i) k a b ins there among e =
     among_right (read_of a (to + suc i) b) (flat_map (read_at origins to) xs) (all_reads origins (to + 1) all)
     (subst (λ (m : ℕ). Among (read_of a m b) (all_reads origins (to + 1) all)) n (reads_all origins (to + 1) all i k a b ins there among e))
 
-module _ (d : Design) (parts : List ShellPart) (numbers : List ℕ) (are : ArePartsOf d (length (columns d)) parts) (outs : AreOutputs d numbers) where
+module _ (d : Design) (ports : List ShellPorts) (numbers : List ℕ) (are : ArePortsOf d (length (columns d)) ports) (outs : AreOutputs d numbers) where
   abbrev all : List (List ℕ)
-  all = map part_ins parts ++ numbers ∷ []
+  all = map ins_of ports ++ numbers ∷ []
 
   record Consumes (i : ℕ) (ins : List ℕ) : Type 0 where
     pub columns_are : inputs_of d (suc i) ≡ map (column_at d) ins
     pub below : AllByRecursion (λ k. k < length (columns d)) ins
 
-  shell_inputs : (i : ℕ) (part : ShellPart) → slice_get parts i ≡ Some part → Consumes i part.ins
+  shell_inputs : (i : ℕ) (shell : ShellPorts) → slice_get ports i ≡ Some shell → Consumes i shell.ins
   unfolding inputs_of
-  shell_inputs i part here =
-      let of = are.each i part here in
-      let inside = slice_get_within parts i part here in
+  shell_inputs i shell here =
+      let of = are.each i shell here in
+      let inside = slice_get_within ports i shell here in
       let long = are.long in
       let other : eqb i (length (pearls d)) ≡ false = grind (arith, inside, long) in
       record {
@@ -107,12 +107,12 @@ module _ (d : Design) (parts : List ShellPart) (numbers : List ℕ) (are : ArePa
       }
 
   consumes : (i : ℕ) (ins : List ℕ) → slice_get all i ≡ Some ins → Consumes i ins
-  consumes i ins here = by (get_push (map part_ins parts) numbers i ins here)
+  consumes i ins here = by (get_push (map ins_of ports) numbers i ins here)
     where
-      by : (slice_get (map part_ins parts) i ≡ Some ins) ⊎ ((i ≡ length (map part_ins parts)) × (ins ≡ numbers)) → Consumes i ins
-      by (inl h) = let part = map_get part_ins parts i ins h in subst (Consumes i) (sym part.2) (shell_inputs i part.0 part.1)
+      by : (slice_get (map ins_of ports) i ≡ Some ins) ⊎ ((i ≡ length (map ins_of ports)) × (ins ≡ numbers)) → Consumes i ins
+      by (inl h) = let shell = map_get ins_of ports i ins h in subst (Consumes i) (sym shell.2) (shell_inputs i shell.0 shell.1)
       by (inr h) =
-          let mapped = length-map parts part_ins in
+          let mapped = length-map ports ins_of in
           let long = are.long in
           let n : length (pearls d) ≡ i = (let e = h.0 in omega arith) in
           subst (Consumes i) (sym h.1) (subst (λ (m : ℕ). Consumes m numbers) n sink_inputs)
@@ -122,13 +122,13 @@ module _ (d : Design) (parts : List ShellPart) (numbers : List ℕ) (are : ArePa
     where
       by : (i < length (pearls d)) ⊎ (length (pearls d) ≤ i) → (ins : List ℕ) × (slice_get all i ≡ Some ins)
       by (inl less) =
-          let part = item_at parts i (let l = are.long in omega arith) in
-          (part.0.ins, get_left (map part_ins parts) (numbers ∷ []) i part.0.ins (get_map part_ins parts i part.0 part.1))
+          let shell = item_at ports i (let l = are.long in omega arith) in
+          (shell.0.ins, get_left (map ins_of ports) (numbers ∷ []) i shell.0.ins (get_map ins_of ports i shell.0 shell.1))
       by (inr past) =
-          let mapped = length-map parts part_ins in
+          let mapped = length-map ports ins_of in
           let long = are.long in
-          let n : length (map part_ins parts) ≡ i = omega arith in
-          (numbers, subst (λ (m : ℕ). slice_get all m ≡ Some numbers) n (get_last (map part_ins parts) numbers))
+          let n : length (map ins_of ports) ≡ i = omega arith in
+          (numbers, subst (λ (m : ℕ). slice_get all m ≡ Some numbers) n (get_last (map ins_of ports) numbers))
 
   pub leads_are : (origins : List (Option Origin)) (found reads : List Read) → AreColumnsLed d origins → found ≡ all_reads origins 1 all → AreAscending reads → ((r : Read) → Among r reads ↔ Among r found) → AreLeads d origins reads
   leads_are origins found reads led is ascending same = record { led = led; ascending = ascending; exact = λ r. (there r, back r) }

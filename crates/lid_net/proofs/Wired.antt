@@ -1,20 +1,18 @@
 -- Nodes that are made one after another.
-use Rattle.std.proofs.Common.{◌≡◌, ◌<◌, ◌≤◌, ◌+◌, ℕ, zero, suc, List, [], ◌∷◌, ◌++◌, length, map, take, drop, reverse, get_or, append_assoc, append-nil, refl, sym, ◌∙◌, ap, subst, arith, length-append}
+use Rattle.std.proofs.Common.{◌≡◌, ◌<◌, ◌+◌, ℕ, zero, suc, List, [], ◌∷◌, ◌++◌, length, map, take, get_or, append_assoc, append-nil, sym, ◌∙◌, ap, subst, arith}
 use Rattle.std.specs.List.{AllByRecursion}
 use Rattle.std.proofs.Math.Seq.{take-suc}
-use Rattle.std.proofs.lemmas.List.{reverse-append, length-map}
-use Rattle.lid_base.specs.Lists.{Among}
-use Rattle.lid_base.proofs.Lists.{all_among, among_at}
+use Rattle.std.proofs.lemmas.List.{length-map, length-take-le}
+use Rattle.lid_design.specs.declared.Design.{Design}
 use Rattle.lid_system.specs.declared.Channel.{Channel}
 use Rattle.lid_system.specs.declared.InBit.{InBit}
 use Rattle.lid_system.specs.declared.Node.{Node}
-use Rattle.lid_system.specs.declared.Node.TheVariants.{Source, Shell, Sink}
 use Rattle.lid_net_channels.specs.Bits.{CarryAll}
 use Rattle.lid_net.specs.declared.origin.Origin.{Origin}
 use Rattle.std.proofs.Common.{Option}
-use Rattle.lid_net.specs.declared.part.ShellPart.{ShellPart}
+use Rattle.lid_net.specs.declared.ports.ShellPorts.{ShellPorts}
 use Rattle.lid_net.specs.declared.nodes.Wiring.{Wiring}
-use Rattle.lid_net.specs.Marks.{part_ins}
+use Rattle.lid_net.specs.Marks.{ins_of}
 use Rattle.lid_net.specs.Nodes.{IsBitFor, AreInBits, CanRead, CanReadAll, IsShellFor, AreShellNodes, AreShellsSoFar}
 
 pub bits_push : (channels : List Channel) (origins : List (Option Origin)) (to : ℕ) (ks : List ℕ) (xs : List InBit) (k : ℕ) (x : InBit) → AreInBits channels origins to ks xs → IsBitFor channels origins to k x → AreInBits channels origins to (ks ++ k ∷ []) (xs ++ x ∷ [])
@@ -29,66 +27,50 @@ bits_more channels origins to ins i xs x less h b =
     subst (λ (ks : List ℕ). AreInBits channels origins to ks (xs ++ x ∷ [])) (sym (ap (λ (n : ℕ). take n ins) e ∙ take-suc ins i 0 less))
     (bits_push channels origins to (take i ins) xs (get_or ins i 0) x h b)
 
--- what a part may read
-pub can_read_part : (w : Wiring) (to i : ℕ) (parts : List ShellPart) (part : ShellPart) → CanReadAll w to (map part_ins parts) → i < length parts → part ≡ get_or parts i part → AllByRecursion (CanRead w (to + i)) part.ins
-can_read_part w to i [] part h less is = absurd (omega arith)
-can_read_part w to zero (p ∷ parts) part h less is =
+-- what the shell of a pearl may read
+can_read_shell : (w : Wiring) (to i : ℕ) (ports : List ShellPorts) (shell : ShellPorts) → CanReadAll w to (map ins_of ports) → i < length ports → shell ≡ get_or ports i shell → AllByRecursion (CanRead w (to + i)) shell.ins
+can_read_shell w to i [] shell h less is = absurd (omega arith)
+can_read_shell w to zero (p ∷ ports) shell h less is =
     let e : to ≡ to + 0 = omega arith in
-    subst (λ (n : ℕ). AllByRecursion (CanRead w n) part.ins) e (subst (λ (q : ShellPart). AllByRecursion (CanRead w to) q.ins) (sym is) h.0)
-can_read_part w to (suc i) (p ∷ parts) part h less is =
+    subst (λ (n : ℕ). AllByRecursion (CanRead w n) shell.ins) e (subst (λ (q : ShellPorts). AllByRecursion (CanRead w to) q.ins) (sym is) h.0)
+can_read_shell w to (suc i) (p ∷ ports) shell h less is =
     let e : (to + 1) + i ≡ to + suc i = omega arith in
-    subst (λ (n : ℕ). AllByRecursion (CanRead w n) part.ins) e (can_read_part w (to + 1) i parts part h.1 (omega arith) is)
+    subst (λ (n : ℕ). AllByRecursion (CanRead w n) shell.ins) e (can_read_shell w (to + 1) i ports shell h.1 (omega arith) is)
 
--- the last of a front of a list
-front_last : (parts left : List ShellPart) (n : ℕ) (part : ShellPart) → n < length parts → left ++ part ∷ [] ≡ take (suc n) parts → length left ≡ n → (left ≡ take n parts) × (part ≡ get_or parts n part)
-front_last [] left n part less is long = absurd (omega arith)
-front_last (p ∷ parts) [] zero part less is long = (refl, (let e : part ∷ [] ≡ p ∷ [] = is in cc))
-front_last (p ∷ parts) [] (suc n) part less is long = absurd (omega arith)
-front_last (p ∷ parts) (q ∷ left) zero part less is long = absurd (omega arith)
-front_last (p ∷ parts) (q ∷ left) (suc n) part less is long =
-    let e : q ∷ (left ++ part ∷ []) ≡ p ∷ take (suc n) parts = is in
-    let head : q ≡ p = cc in
-    let tail : left ++ part ∷ [] ≡ take (suc n) parts = cc in
-    let h = front_last parts left n part (omega arith) tail (omega arith) in
-    ((let t = h.0 in cc), h.1)
+pub read_shell : (w : Wiring) (ports : List ShellPorts) (shell : ShellPorts) (i : ℕ) → CanReadAll w 1 (map ins_of ports) → i < length ports → shell ≡ get_or ports i shell → AllByRecursion (CanRead w (i + 1)) shell.ins
+read_shell w ports shell i h less is =
+    let e : 1 + i ≡ i + 1 = omega arith in
+    subst (λ (k : ℕ). AllByRecursion (CanRead w k) shell.ins) e (can_read_shell w 1 i ports shell h less is)
 
-drop_here : (parts : List ShellPart) (n : ℕ) (part : ShellPart) → n < length parts → part ≡ get_or parts n part → drop n parts ≡ part ∷ drop (n + 1) parts
-drop_here [] n part less is = absurd (omega arith)
-drop_here (p ∷ parts) zero part less is = (let e : part ≡ p = is in cc)
-drop_here (p ∷ parts) (suc n) part less is = drop_here parts n part (omega arith) is ∙ (let e : suc (n + 1) ≡ suc n + 1 = omega arith in ap (λ (m : ℕ). part ∷ drop m (p ∷ parts)) e)
+-- one more shell
+shells_push : (d : Design) (channels : List Channel) (origins : List (Option Origin)) (first : ℕ) (ports : List ShellPorts) (shells : List Node) (p : ShellPorts) (x : Node) → AreShellNodes d channels origins first ports shells → IsShellFor d channels origins (first + length ports) p x → AreShellNodes d channels origins first (ports ++ p ∷ []) (shells ++ x ∷ [])
+shells_push d channels origins first [] [] p x h last = let e : first + 0 ≡ first = omega arith in (subst (λ (n : ℕ). IsShellFor d channels origins n p x) e last, tt)
+shells_push d channels origins first [] (y ∷ ys) p x h last = absurd h
+shells_push d channels origins first (q ∷ ports) [] p x h last = absurd h
+shells_push d channels origins first (q ∷ ports) (y ∷ ys) p x h last =
+    let e : first + suc (length ports) ≡ (first + 1) + length ports = omega arith in
+    (h.0, shells_push d channels origins (first + 1) ports ys p x h.1 (subst (λ (n : ℕ). IsShellFor d channels origins n p x) e last))
 
-pub record Popped (parts left old : List ShellPart) (part : ShellPart) : Type 0 where
-  pub less : length left < length parts
-  pub first : left ≡ take (length left) parts
-  pub is : part ≡ get_or parts (length left) part
+pub shells_first : (d : Design) (w : Wiring) (ports : List ShellPorts) (old : List Node) → AreShellsSoFar d w (take 0 ports) old old
+shells_first d w ports old = record { shells = []; is = sym (append-nil old); each = λ channels carry. tt }
 
-pub popped : (w : Wiring) (parts left before : List ShellPart) (part : ShellPart) (old new : List Node) → AreShellsSoFar w parts before old new → before ≡ left ++ part ∷ [] → Popped parts left before part
-popped w parts left before part old new sofar is =
-    let long : length before ≡ length left + 1 = ap length is ∙ length-append left (part ∷ []) in
-    let few = sofar.few in
-    let less : length left < length parts = omega arith in
-    let count : length before ≡ suc (length left) = omega arith in
-    let both = front_last parts left (length left) part less (sym is ∙ sofar.first ∙ ap (λ (n : ℕ). take n parts) count) refl in
-    record { less = less; first = both.0; is = both.1 }
-
-pub shells_more : (w : Wiring) (parts left before : List ShellPart) (part : ShellPart) (old new after : List Node) (shell : Node) → AreShellsSoFar w parts before old new → before ≡ left ++ part ∷ [] → after ≡ new ++ shell ∷ []
-    → (ins : List InBit) → shell ≡ Shell part.pearl ins → ((channels : List Channel) → CarryAll channels w.reads.items w.bits.items → AreInBits channels w.origins.items (length left + 1) part.ins ins)
-    → AreShellsSoFar w parts left old after
-shells_more w parts left before part old new after shell sofar is pushed ins made bits =
-    let pop = popped w parts left before part old new sofar is in
-    let less = pop.less in
-    let long : length before ≡ length left + 1 = ap length is ∙ length-append left (part ∷ []) in
+pub shells_more : (d : Design) (w : Wiring) (ports : List ShellPorts) (i : ℕ) (p : ShellPorts) (old new after : List Node) (shell : Node) → AreShellsSoFar d w (take i ports) old new → i < length ports → p ≡ get_or ports i p → after ≡ new ++ shell ∷ []
+    → ((channels : List Channel) → CarryAll channels w.reads.items w.bits.items → IsShellFor d channels w.origins.items i p shell)
+    → AreShellsSoFar d w (take (i + 1) ports) old after
+shells_more d w ports i p old new after shell sofar less is pushed made =
+    let e : i + 1 ≡ suc i = omega arith in
+    let more : take (i + 1) ports ≡ take i ports ++ p ∷ [] = ap (λ (n : ℕ). take n ports) e ∙ take-suc ports i p less ∙ ap (λ (q : ShellPorts). take i ports ++ q ∷ []) (sym is) in
+    let long : i ≡ 0 + length (take i ports) = (let l = length-take-le i ports (omega arith) in omega arith) in
     record {
-      shells = shell ∷ sofar.shells;
-      is = pushed ∙ ap (λ (ns : List Node). ns ++ shell ∷ []) sofar.is ∙ append_assoc old (reverse sofar.shells) (shell ∷ []) ∙ ap (λ (ns : List Node). old ++ ns) (sym (reverse-append (shell ∷ []) sofar.shells));
-      few = omega arith;
-      first = pop.first;
+      shells = sofar.shells ++ shell ∷ [];
+      is = pushed ∙ ap (λ (ns : List Node). ns ++ shell ∷ []) sofar.is ∙ append_assoc old sofar.shells (shell ∷ []);
       each = λ channels carry.
-          subst (λ (ps : List ShellPart). AreShellNodes channels w.origins.items (length left + 1) ps (shell ∷ sofar.shells)) (sym (drop_here parts (length left) part less pop.is)) (
-            record { ins = ins; is = made; bits = bits channels carry },
-            subst (λ (n : ℕ). AreShellNodes channels w.origins.items (n + 1) (drop n parts) sofar.shells) long (sofar.each channels carry),
-          );
+          subst (λ (ps : List ShellPorts). AreShellNodes d channels w.origins.items 0 ps (sofar.shells ++ shell ∷ [])) (sym more)
+          (shells_push d channels w.origins.items 0 (take i ports) sofar.shells p shell (sofar.each channels carry) (subst (λ (n : ℕ). IsShellFor d channels w.origins.items n p shell) long (made channels carry)));
     }
+
+pub shells_all : (d : Design) (w : Wiring) (ports first : List ShellPorts) (old new : List Node) → AreShellsSoFar d w first old new → first ≡ ports → AreShellsSoFar d w ports old new
+shells_all d w ports first old new h e = subst (λ (ps : List ShellPorts). AreShellsSoFar d w ps old new) e h
 
 pub read_shells : (w : Wiring) (to : ℕ) (all : List (List ℕ)) (last : List ℕ) → CanReadAll w to (all ++ last ∷ []) → CanReadAll w to all × AllByRecursion (CanRead w (to + length all)) last
 read_shells w to [] last h = let e : to ≡ to + 0 = omega arith in (tt, subst (λ (n : ℕ). AllByRecursion (CanRead w n) last) e h.0)
@@ -97,13 +79,8 @@ read_shells w to (ins ∷ all) last h =
     let e : (to + 1) + length all ≡ to + suc (length all) = omega arith in
     ((h.0, later.0), subst (λ (n : ℕ). AllByRecursion (CanRead w n) last) e later.1)
 
-pub read_sink : (w : Wiring) (parts : List ShellPart) (last : List ℕ) (n : ℕ) → CanReadAll w 1 (map part_ins parts ++ last ∷ []) → n ≡ length parts → AllByRecursion (CanRead w (n + 1)) last
-read_sink w parts last n h long =
-    let mapped = length-map parts part_ins in
-    let e : 1 + length (map part_ins parts) ≡ n + 1 = omega arith in
-    subst (λ (k : ℕ). AllByRecursion (CanRead w k) last) e (read_shells w 1 (map part_ins parts) last h).1
-
-pub read_part : (w : Wiring) (parts : List ShellPart) (part : ShellPart) (i n : ℕ) → CanReadAll w 1 (map part_ins parts) → i < length parts → part ≡ get_or parts i part → n ≡ i → AllByRecursion (CanRead w (n + 1)) part.ins
-read_part w parts part i n h less is same =
-    let e : 1 + i ≡ n + 1 = omega arith in
-    subst (λ (k : ℕ). AllByRecursion (CanRead w k) part.ins) e (can_read_part w 1 i parts part h less is)
+pub read_sink : (w : Wiring) (ports : List ShellPorts) (last : List ℕ) (n : ℕ) → CanReadAll w 1 (map ins_of ports ++ last ∷ []) → n ≡ length ports → AllByRecursion (CanRead w (n + 1)) last
+read_sink w ports last n h long =
+    let mapped = length-map ports ins_of in
+    let e : 1 + length (map ins_of ports) ≡ n + 1 = omega arith in
+    subst (λ (k : ℕ). AllByRecursion (CanRead w k) last) e (read_shells w 1 (map ins_of ports) last h).1

@@ -1,18 +1,14 @@
 -- Ports that are marked among columns, by numbers.
-use Rattle.std.specs.Prelude.{◌≡◌, ◌⊎◌, ◌+◌, ℕ, List, [], ◌∷◌, Option, Some, None, set}
-use Rattle.lid_pearl.specs.Pearls.{View}
+use Rattle.std.specs.Prelude.{◌≡◌, ◌+◌, ℕ, List, [], ◌∷◌, Option, Some, set}
 use Rattle.lid_net.specs.declared.origin.Origin.{Origin}
-use Rattle.lid_net.specs.declared.origin.Origin.TheVariants.{Const, Port}
-use Rattle.lid_net.specs.declared.part.ShellPart.{ShellPart}
+use Rattle.lid_net.specs.declared.origin.Origin.TheVariants.{Port}
+use Rattle.lid_net.specs.declared.ports.ShellPorts.{ShellPorts}
 
-abbrev pub part_outs : ShellPart → List ℕ
-part_outs part = part.outs
+abbrev pub outs_of : ShellPorts → List ℕ
+outs_of ports = ports.outs
 
-abbrev pub part_ins : ShellPart → List ℕ
-part_ins part = part.ins
-
-abbrev pub part_pearl : ShellPart → View
-part_pearl part = part.pearl
+abbrev pub ins_of : ShellPorts → List ℕ
+ins_of ports = ports.ins
 
 -- marks with those of the ports of a node from a place on
 abbrev pub marked_from : ℕ → ℕ → List ℕ → List (Option Origin) → List (Option Origin)

@@ -1,7 +1,9 @@
 -- Nodes of systems, by numbers.
-use Rattle.std.specs.Prelude.{◌≡◌, ◌+◌, ℕ, List, [], ◌∷◌, ◌++◌, ◌≤◌, length, reverse, take, drop, Option, Some, None, ⊤}
+use Rattle.std.specs.Prelude.{◌≡◌, ◌+◌, ℕ, List, [], ◌∷◌, ◌++◌, length, Option, Some, None, ⊤}
 use Rattle.std.specs.List.{AllByRecursion}
 use Rattle.lid_base.specs.Lists.{Among}
+use Rattle.lid_design.specs.declared.Design.{Design}
+use Rattle.lid_pearl.specs.Pearls.{View}
 use Rattle.lid_system.specs.declared.Channel.{Channel}
 use Rattle.lid_system.specs.declared.InBit.{InBit}
 use Rattle.lid_system.specs.declared.InBit.TheVariants as bits
@@ -14,8 +16,9 @@ use Rattle.lid_net.specs.declared.origin.Origin.{Origin}
 use Rattle.lid_net.specs.declared.origin.Origin.TheVariants.{Const, Port}
 use Rattle.lid_net.specs.Steps.{origin_at}
 use Rattle.lid_net.specs.Reads.{read_of}
-use Rattle.lid_net.specs.declared.part.ShellPart.{ShellPart}
+use Rattle.lid_net.specs.declared.ports.ShellPorts.{ShellPorts}
 use Rattle.lid_net.specs.declared.nodes.Wiring.{Wiring}
+use Rattle.lid_net.specs.PearlParts.{IsPearlOf}
 
 -- reads in order, with a bit for each
 pub record IsWired (w : Wiring) : Type 0 where
@@ -51,30 +54,30 @@ AreInBits channels origins to [] [] = ⊤
 AreInBits channels origins to (k ∷ ks) (x ∷ xs) = IsBitFor channels origins to k x × AreInBits channels origins to ks xs
 AreInBits channels origins to _ _ = ⊥
 
--- the node is the shell of a part
-pub record IsShellFor (channels : List Channel) (origins : List (Option Origin)) (node : ℕ) (part : ShellPart) (shell : Node) : Type 0 where
+-- the node is the shell of the pearl of this number, which has these ports
+pub record IsShellFor (d : Design) (channels : List Channel) (origins : List (Option Origin)) (i : ℕ) (ports : ShellPorts) (shell : Node) : Type 0 where
+  pub pearl : View
+  pub of : IsPearlOf d i pearl
   pub ins : List InBit
-  pub is : shell ≡ Shell part.pearl ins
-  pub bits : AreInBits channels origins node part.ins ins
+  pub is : shell ≡ Shell pearl ins
+  pub bits : AreInBits channels origins (i + 1) ports.ins ins
 
--- a shell for each part, the first of which is a node of this number
-abbrev pub AreShellNodes : List Channel → List (Option Origin) → ℕ → List ShellPart → List Node → Type 0
-AreShellNodes channels origins node [] [] = ⊤
-AreShellNodes channels origins node (part ∷ parts) (shell ∷ shells) = IsShellFor channels origins node part shell × AreShellNodes channels origins (node + 1) parts shells
-AreShellNodes channels origins node _ _ = ⊥
+-- the shells of pearls with these ports, the first of which is the pearl of this number
+abbrev pub AreShellNodes : Design → List Channel → List (Option Origin) → ℕ → List ShellPorts → List Node → Type 0
+AreShellNodes d channels origins i [] [] = ⊤
+AreShellNodes d channels origins i (ports ∷ more) (shell ∷ shells) = IsShellFor d channels origins i ports shell × AreShellNodes d channels origins (i + 1) more shells
+AreShellNodes d channels origins i _ _ = ⊥
 
--- the source of these columns, a shell for each part, and the sink
-pub record AreNodes (channels : List Channel) (origins : List (Option Origin)) (parts : List ShellPart) (inputs outputs : List (List ℕ)) (numbers : List ℕ) (nodes : List Node) : Type 0 where
+-- the source of these columns, a shell for each pearl, and the sink
+pub record AreNodes (d : Design) (channels : List Channel) (origins : List (Option Origin)) (ports : List ShellPorts) (inputs outputs : List (List ℕ)) (numbers : List ℕ) (nodes : List Node) : Type 0 where
   pub shells : List Node
   pub ins : List InBit
   pub is : nodes ≡ Source inputs ∷ (shells ++ Sink outputs ins ∷ [])
-  pub each : AreShellNodes channels origins 1 parts shells
-  pub bits : AreInBits channels origins (length parts + 1) numbers ins
+  pub each : AreShellNodes d channels origins 0 ports shells
+  pub bits : AreInBits channels origins (length ports + 1) numbers ins
 
--- the shells of the last parts stand there, the last first, when the others are left
-pub record AreShellsSoFar (w : Wiring) (parts left : List ShellPart) (old new : List Node) : Type 0 where
+-- the shells of the first pearls, which have these ports, were appended
+pub record AreShellsSoFar (d : Design) (w : Wiring) (ports : List ShellPorts) (old new : List Node) : Type 0 where
   pub shells : List Node
-  pub is : new ≡ old ++ reverse shells
-  pub few : length left ≤ length parts
-  pub first : left ≡ take (length left) parts
-  pub each : (channels : List Channel) → CarryAll channels w.reads.items w.bits.items → AreShellNodes channels w.origins.items (length left + 1) (drop (length left) parts) shells
+  pub is : new ≡ old ++ shells
+  pub each : (channels : List Channel) → CarryAll channels w.reads.items w.bits.items → AreShellNodes d channels w.origins.items 0 ports shells

@@ -12,7 +12,7 @@ use Rattle.lid_net_channels.specs.declared.reads.Read.{Read}
 use Rattle.lid_net_channels.specs.Reads.{AreAscending}
 use Rattle.lid_net.specs.declared.origin.Origin.{Origin}
 use Rattle.lid_net.specs.Steps.{origin_at}
-use Rattle.lid_net.specs.declared.part.ShellPart.{ShellPart}
+use Rattle.lid_net.specs.declared.ports.ShellPorts.{ShellPorts}
 use Rattle.lid_net.specs.Graphs.{LeadsTo, IsReadBy}
 use Rattle.lid_net.specs.Nodes.{AreNodes}
 
@@ -31,8 +31,8 @@ pub record AreOutputs (d : Design) (numbers : List ℕ) : Type 0 where
   pub below : AllByRecursion (λ k. k < length (columns d)) numbers
   pub columns_are : map (column_at d) numbers ≡ map (column []) (root_outputs d)
 
--- the nodes of a design with these parts
-pub record AreNodesOf (d : Design) (parts : List ShellPart) (origins : List (Option Origin)) (channels : List Channel) (nodes : List Node) : Type 0 where
+-- the nodes of a design, whose pearls have these ports
+pub record AreNodesOf (d : Design) (ports : List ShellPorts) (origins : List (Option Origin)) (channels : List Channel) (nodes : List Node) : Type 0 where
   pub numbers : List ℕ
   pub outputs : AreOutputs d numbers
-  pub are : AreNodes channels origins parts (root_inputs d) (root_outputs d) numbers nodes
+  pub are : AreNodes d channels origins ports (root_inputs d) (root_outputs d) numbers nodes

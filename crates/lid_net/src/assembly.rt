@@ -1,4 +1,4 @@
-//! The system of an accepted design.
+//! The system of an accepted design, and its channels alone.
 
 ghost use Rattle.std.specs.Prelude.{◌≡◌, ◌<◌, ◌≤◌, ◌⊎◌, ℕ, None, List, length, IfOk, IfErr};
 ghost use Rattle.lid_design.specs.Elaboration.{columns};
@@ -9,7 +9,7 @@ ghost use Rattle.lid_net_channels.specs.declared.fault.NetFault.TheVariants.{Too
 ghost use Rattle.lid_net_channels.specs.Pieces.{AreChannelsOf};
 ghost use Rattle.lid_net.specs.Steps.{origin_at};
 ghost use Rattle.lid_net.specs.Graphs.{IsGraphOf};
-ghost use Rattle.lid_net.specs.PearlParts.{ArePartsOf};
+ghost use Rattle.lid_net.specs.PearlParts.{ArePortsOf};
 ghost use Rattle.lid_net.specs.Systems.{AreColumnsLed, AreLeads, AreNodesOf};
 
 use crate::collect::collect_reads;
@@ -17,8 +17,8 @@ use crate::leading::lead_back;
 use crate::marks::mark_ports;
 use crate::nodes::{Ends, Wiring, make_nodes};
 use crate::origin::Origin;
-use crate::part::ShellPart;
-use crate::pearls::collect_parts;
+use crate::pearls::collect_ports;
+use crate::ports::ShellPorts;
 use lid_base::Items;
 use lid_check::Checked;
 use lid_net_channels::{NetFault, Read, cut_channels, name_bits, put_in_order};
@@ -30,8 +30,8 @@ use std::alloc::{AllocError, Global};
 /// what is read, which is measured and not proved.
 ///
 /// # Errors
-/// `TooManyChannels` where there are more than 16,384, with their number; they are counted before any is
-/// made. `Memory` where there is no memory.
+/// `TooManyChannels` where there are more than 16,384, with their number; they are counted before any
+/// channel or pearl is made. `Memory` where there is no memory.
 pub fn build(alloc: Global, checked: &Checked) -> Result<System, NetFault>
     ensures formed { IfOk result IsWellFormed }
     ensures system { IfOk result (IsSystemOf checked.now) }
@@ -39,71 +39,91 @@ pub fn build(alloc: Global, checked: &Checked) -> Result<System, NetFault>
     ensures err { IfErr result (λ fault. (fault ≡ Memory) ⊎ ((channels : List Channel) × IsGraphOf checked.now channels × (16384 < length channels)
         × (fault ≡ TooManyChannels (length channels)))) }
 {
-    match collect_parts(alloc, checked) {
-        Ok(parts) => join(alloc, checked, parts),
+    match find_leads(alloc, checked) {
+        Ok(leads) => join(alloc, checked, leads),
         Err(_) => Err(NetFault::Memory),
     }
 }
 
-/// Joins the parts of a design.
-fn join(alloc: Global, checked: &Checked, parts: Vec<ShellPart>) -> Result<System, NetFault>
-    requires { ArePartsOf checked.now (length (columns checked.now)) parts.items }
+/// The channels of the system of an accepted design, in the order in which `build` gives them, without
+/// its nodes: one for each 31 ports that a node reads of another, the last one shorter. No pearl is made.
+///
+/// # Errors
+/// As those of `build`.
+pub fn find_channels(alloc: Global, checked: &Checked) -> Result<Items<Channel>, NetFault>
+    ensures graph { IfOk result (IsGraphOf checked.now) }
+    ensures few { IfOk result (λ channels. length channels ≤ 16384) }
+    ensures err { IfErr result (λ fault. (fault ≡ Memory) ⊎ ((channels : List Channel) × IsGraphOf checked.now channels × (16384 < length channels)
+        × (fault ≡ TooManyChannels (length channels)))) }
+{
+    match find_leads(alloc, checked) {
+        Ok(leads) => cut_channels(alloc, leads.reads.as_slice()),
+        Err(_) => Err(NetFault::Memory),
+    }
+}
+
+/// Joins the nodes of a design and its channels.
+fn join(alloc: Global, checked: &Checked, leads: Leads) -> Result<System, NetFault>
+    requires ports { ArePortsOf checked.now (length (columns checked.now)) leads.ports.items }
+    requires leads { AreLeads checked.now leads.origins.items leads.reads.items }
     ensures formed { IfOk result IsWellFormed }
     ensures system { IfOk result (IsSystemOf checked.now) }
     ensures graph { IfOk result (λ s. IsGraphOf checked.now s.channels) }
     ensures err { IfErr result (λ fault. (fault ≡ Memory) ⊎ ((channels : List Channel) × IsGraphOf checked.now channels × (16384 < length channels)
         × (fault ≡ TooManyChannels (length channels)))) }
 {
-    let leads = match find_leads(alloc, checked, parts.as_slice()) {
-        Ok(leads) => leads,
-        Err(_) => return Err(NetFault::Memory),
-    };
     let channels = match cut_channels(alloc, leads.reads.as_slice()) {
         Ok(channels) => channels,
         Err(fault) => return Err(fault),
     };
-    match nodes_of(alloc, checked, parts, leads, channels.as_slice()) {
+    match nodes_of(alloc, checked, leads, channels.as_slice()) {
         Ok(nodes) => Ok(System { nodes, channels }),
         Err(_) => Err(NetFault::Memory),
     }
 }
 
-/// Where columns are led back to, and what nodes read.
+/// The ports of pearls, where columns are led back to, and what nodes read.
 #[derive(Drop)]
 struct Leads {
+    ports: Vec<ShellPorts>,
     origins: Vec<Option<Origin>>,
     reads: Vec<Read>,
 }
 
 /// Leads the inputs of nodes back.
-fn find_leads(alloc: Global, checked: &Checked, parts: &[ShellPart]) -> Result<Leads, AllocError>
-    requires { ArePartsOf checked.now (length (columns checked.now)) parts.now }
-    ensures { IfOk result (λ leads. AreLeads checked.now leads.origins.items leads.reads.items) }
+fn find_leads(alloc: Global, checked: &Checked) -> Result<Leads, AllocError>
+    ensures ports { IfOk result (λ leads. ArePortsOf checked.now (length (columns checked.now)) leads.ports.items) }
+    ensures leads { IfOk result (λ leads. AreLeads checked.now leads.origins.items leads.reads.items) }
 {
-    let origins = find_origins(alloc, checked, parts)?;
+    let ports = collect_ports(alloc, checked)?;
+    let origins = find_origins(alloc, checked, ports.as_slice())?;
     let outputs = checked.network().outputs.as_slice();
-    let mut reads = collect_reads(alloc, origins.as_slice(), parts, outputs)?;
+    let mut reads = collect_reads(alloc, origins.as_slice(), ports.as_slice(), outputs)?;
     put_in_order(&mut reads);
-    Ok(Leads { origins, reads })
+    Ok(Leads {
+        ports,
+        origins,
+        reads,
+    })
 }
 
 /// Where each column is led back to.
 fn find_origins(
     alloc: Global,
     checked: &Checked,
-    parts: &[ShellPart],
+    ports: &[ShellPorts],
 ) -> Result<Vec<Option<Origin>>, AllocError>
-    requires { ArePartsOf checked.now (length (columns checked.now)) parts.now }
+    requires { ArePortsOf checked.now (length (columns checked.now)) ports.now }
     ensures { IfOk result (λ origins. AreColumnsLed checked.now origins.items) }
 {
     let mut origins = Vec::from_elem(alloc, None, checked.network().columns.drivers.len())?;
-    lead_columns(checked, parts, origins.as_mut_slice());
+    lead_columns(checked, ports, origins.as_mut_slice());
     Ok(origins)
 }
 
 /// Leads each column back, where none has an origin yet.
-fn lead_columns(checked: &Checked, parts: &[ShellPart], origins: &mut [Option<Origin>])
-    requires parts { ArePartsOf checked.now (length (columns checked.now)) parts.now }
+fn lead_columns(checked: &Checked, ports: &[ShellPorts], origins: &mut [Option<Origin>])
+    requires ports { ArePortsOf checked.now (length (columns checked.now)) ports.now }
     requires size { length origins.old ≡ length (columns checked.now) }
     requires none { (k : ℕ) → origin_at origins.old k ≡ None }
     ensures size { length origins.new ≡ length origins.old }
@@ -111,7 +131,7 @@ fn lead_columns(checked: &Checked, parts: &[ShellPart], origins: &mut [Option<Or
 {
     let network = checked.network();
     let design = checked.design();
-    mark_ports(parts, origins);
+    mark_ports(ports, origins);
     lead_back(
         design,
         network.columns.drivers.as_slice(),
@@ -124,18 +144,21 @@ fn lead_columns(checked: &Checked, parts: &[ShellPart], origins: &mut [Option<Or
 fn nodes_of(
     alloc: Global,
     checked: &Checked,
-    parts: Vec<ShellPart>,
     leads: Leads,
     channels: &[Channel],
 ) -> Result<Items<Node>, AllocError>
-    requires parts { ArePartsOf checked.now (length (columns checked.now)) parts.items }
+    requires ports { ArePortsOf checked.now (length (columns checked.now)) leads.ports.items }
     requires leads { AreLeads checked.now leads.origins.items leads.reads.items }
     requires channels { AreChannelsOf leads.reads.items channels.now }
     requires few { length channels.now ≤ 16384 }
-    ensures { IfOk result (λ nodes. AreNodesOf checked.now parts.items leads.origins.items channels.now nodes) }
+    ensures { IfOk result (AreNodesOf checked.now leads.ports.items leads.origins.items channels.now) }
 {
     let _ = checked.design();
-    let Leads { origins, reads } = leads;
+    let Leads {
+        ports,
+        origins,
+        reads,
+    } = leads;
     let bits = name_bits(alloc, reads.as_slice(), channels)?;
     let wiring = Wiring {
         origins,
@@ -147,5 +170,5 @@ fn nodes_of(
         outputs: checked.outputs(),
         numbers: checked.network().outputs.as_slice(),
     };
-    make_nodes(alloc, &wiring, parts, &ends)
+    make_nodes(alloc, checked, &wiring, ports.as_slice(), &ends)
 }

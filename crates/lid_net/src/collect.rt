@@ -1,12 +1,12 @@
 //! The ports that nodes read, by where their inputs are led back to.
 
 ghost use Rattle.std.specs.Prelude.{◌≡◌, ◌≤◌, ◌++◌, ◌∷◌, [], length, map, flat_map, IfOk, OnOk};
-ghost use Rattle.lid_net.specs.Marks.{part_ins};
+ghost use Rattle.lid_net.specs.Marks.{ins_of};
 ghost use Rattle.lid_net.specs.Reads.{read_at, all_reads};
 
 use crate::leading::origin_of;
 use crate::origin::Origin;
-use crate::part::ShellPart;
+use crate::ports::ShellPorts;
 use lid_net_channels::Read;
 use std::alloc::{AllocError, Global};
 
@@ -14,17 +14,17 @@ use std::alloc::{AllocError, Global};
 pub(crate) fn collect_reads(
     alloc: Global,
     origins: &[Option<Origin>],
-    parts: &[ShellPart],
+    ports: &[ShellPorts],
     outputs: &[u32],
 ) -> Result<Vec<Read>, AllocError>
-    requires few { length parts.now ≤ 4096 }
-    ensures { IfOk result (λ reads. reads.items ≡ all_reads origins.now 1 (map part_ins parts.now ++ outputs.now ∷ [])) }
+    requires few { length ports.now ≤ 4096 }
+    ensures { IfOk result (λ reads. reads.items ≡ all_reads origins.now 1 (map ins_of ports.now ++ outputs.now ∷ [])) }
 {
     let mut reads = Vec::new(alloc);
-    for i in 0..parts.len() {
-        push_reads(origins, i as u32 + 1, parts[i].ins.as_slice(), &mut reads)?;
+    for i in 0..ports.len() {
+        push_reads(origins, i as u32 + 1, ports[i].ins.as_slice(), &mut reads)?;
     }
-    push_reads(origins, parts.len() as u32 + 1, outputs, &mut reads)?;
+    push_reads(origins, ports.len() as u32 + 1, outputs, &mut reads)?;
     Ok(reads)
 }
 

@@ -8,11 +8,11 @@ mod leading;
 mod marks;
 mod nodes;
 mod origin;
-mod part;
 mod pearls;
+mod ports;
 mod step;
 
-pub use assembly::build;
+pub use assembly::{build, find_channels};
 pub use leading::{lead_back, origin_of};
 pub use lid_net_channels::NetFault;
 pub use origin::Origin;

@@ -3,22 +3,22 @@
 ghost use Rattle.std.specs.Prelude.{◌≡◌, ◌<◌, ◌≤◌, ◌+◌, length, map, Option, None};
 ghost use Rattle.std.specs.List.{AllByRecursion};
 ghost use Rattle.lid_net.specs.declared.origin.Origin.{Origin};
-ghost use Rattle.lid_net.specs.Marks.{part_outs, MarksPorts, MarksAll};
+ghost use Rattle.lid_net.specs.Marks.{outs_of, MarksPorts, MarksAll};
 
 use crate::origin::Origin;
-use crate::part::ShellPart;
+use crate::ports::ShellPorts;
 
 /// Marks the ports of each shell, the first of which is node 1. Where a column is more than one port,
 /// the last counts.
-pub(crate) fn mark_ports(parts: &[ShellPart], origins: &mut [Option<Origin>])
-    requires few { length parts.now ≤ 4096 }
-    requires below { AllByRecursion (λ part. AllByRecursion (λ k. k < length origins.old) (part_outs part)) parts.now }
-    requires narrow { AllByRecursion (λ part. length (part_outs part) ≤ 1048576) parts.now }
+pub(crate) fn mark_ports(ports: &[ShellPorts], origins: &mut [Option<Origin>])
+    requires few { length ports.now ≤ 4096 }
+    requires below { AllByRecursion (λ shell. AllByRecursion (λ k. k < length origins.old) (outs_of shell)) ports.now }
+    requires narrow { AllByRecursion (λ shell. length (outs_of shell) ≤ 1048576) ports.now }
     ensures size { length origins.new ≡ length origins.old }
-    ensures marks { MarksAll 1 (map part_outs parts.now) origins.old origins.new }
+    ensures marks { MarksAll 1 (map outs_of ports.now) origins.old origins.new }
 {
-    for i in 0..parts.len() {
-        mark_outs(i as u32 + 1, parts[i].outs.as_slice(), origins);
+    for i in 0..ports.len() {
+        mark_outs(i as u32 + 1, ports[i].outs.as_slice(), origins);
     }
 }
 

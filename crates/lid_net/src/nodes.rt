@@ -1,19 +1,21 @@
 //! The nodes of a system.
 
-ghost use Rattle.std.specs.Prelude.{◌≡◌, ◌≤◌, ◌++◌, ◌∷◌, [], List, length, map, reverse, IfOk, OnOk};
+ghost use Rattle.std.specs.Prelude.{◌≡◌, ◌<◌, ◌≤◌, ◌+◌, ◌++◌, ◌∷◌, [], List, length, map, IfOk, OnOk};
 ghost use Rattle.std.specs.List.{AllByRecursion};
+ghost use Rattle.lid_design.specs.Loops.{pearls};
 ghost use Rattle.lid_system.specs.declared.Channel.{Channel};
 ghost use Rattle.lid_system.specs.declared.InBit.{InBit};
-ghost use Rattle.lid_system.specs.declared.Node.{Node};
-ghost use Rattle.lid_system.specs.declared.Node.TheVariants.{Shell, Sink};
+ghost use Rattle.lid_system.specs.declared.Node.TheVariants.{Sink};
 ghost use Rattle.lid_net_channels.specs.Bits.{CarryAll};
-ghost use Rattle.lid_net.specs.Marks.{part_ins};
-ghost use Rattle.lid_net.specs.Nodes.{IsWired, IsBitFor, AreInBits, CanRead, CanReadAll, AreShellNodes, AreNodes};
+ghost use Rattle.lid_net.specs.Marks.{ins_of};
+ghost use Rattle.lid_net.specs.Nodes.{IsWired, IsBitFor, AreInBits, CanRead, CanReadAll, IsShellFor, AreNodes, AreShellsSoFar};
 
 use crate::leading::origin_of;
 use crate::origin::Origin;
-use crate::part::ShellPart;
+use crate::pearls::pearl_of;
+use crate::ports::ShellPorts;
 use lid_base::{Items, Name, copy_names};
+use lid_check::Checked;
 use lid_net_channels::{Read, find_bit};
 use lid_system::{InBit, Node};
 use std::alloc::{AllocError, Global};
@@ -70,26 +72,28 @@ fn bits_of(alloc: Global, wiring: &Wiring, to: u32, ins: &[u32]) -> Result<Items
     Ok(Items::from_vec(bits))
 }
 
-/// The nodes of a system: a source of these columns, a shell for each part, and a sink.
+/// The nodes of a system: a source of these columns, a shell for each pearl, and a sink. Each pearl is made
+/// with its shell.
 pub(crate) fn make_nodes(
     alloc: Global,
+    checked: &Checked,
     wiring: &Wiring,
-    parts: Vec<ShellPart>,
+    ports: &[ShellPorts],
     ends: &Ends<'_>,
 ) -> Result<Items<Node>, AllocError>
-    requires few { length parts.items ≤ 4096 }
+    requires few { length ports.now ≤ 4096 }
+    requires pearls { length ports.now ≤ length (pearls checked.now) }
     requires wired { IsWired wiring.now }
-    requires led { CanReadAll wiring.now 1 (map part_ins parts.items ++ ends.now.numbers.now ∷ []) }
+    requires led { CanReadAll wiring.now 1 (map ins_of ports.now ++ ends.now.numbers.now ∷ []) }
     ensures { IfOk result (λ nodes. (channels : List Channel) → CarryAll channels wiring.now.reads.items wiring.now.bits.items
-        → AreNodes channels wiring.now.origins.items parts.items ends.now.inputs.now ends.now.outputs.now ends.now.numbers.now nodes) }
+        → AreNodes checked.now channels wiring.now.origins.items ports.now ends.now.inputs.now ends.now.outputs.now ends.now.numbers.now nodes) }
 {
-    let mut nodes = Vec::with_capacity(alloc, parts.len() + 2)?;
-    let sink = parts.as_slice().len() as u32 + 1;
-    push_sink(alloc, wiring, sink, ends, &mut nodes)?;
-    push_shells(alloc, wiring, parts, &mut nodes)?;
+    let mut nodes = Vec::with_capacity(alloc, ports.len() + 2)?;
     let columns = copy_names(alloc, ends.inputs)?;
     nodes.push(Node::Source { columns })?;
-    nodes.as_mut_slice().reverse();
+    push_shells(alloc, checked, wiring, ports, &mut nodes)?;
+    let sink = ports.len() as u32 + 1;
+    push_sink(alloc, wiring, sink, ends, &mut nodes)?;
     Ok(Items::from_vec(nodes))
 }
 
@@ -113,38 +117,43 @@ fn push_sink(
     Ok(())
 }
 
-/// Appends a shell for each part, the last first.
+/// Appends a shell for each pearl.
 fn push_shells(
     alloc: Global,
+    checked: &Checked,
     wiring: &Wiring,
-    parts: Vec<ShellPart>,
+    ports: &[ShellPorts],
     nodes: &mut Vec<Node>,
 ) -> Result<(), AllocError>
-    requires few { length parts.items ≤ 4096 }
+    requires few { length ports.now ≤ 4096 }
+    requires pearls { length ports.now ≤ length (pearls checked.now) }
     requires wired { IsWired wiring.now }
-    requires led { CanReadAll wiring.now 1 (map part_ins parts.items) }
-    ensures { OnOk result ((shells : List Node) × (nodes.new.items ≡ nodes.old.items ++ reverse shells)
-        × ((channels : List Channel) → CarryAll channels wiring.now.reads.items wiring.now.bits.items
-        → AreShellNodes channels wiring.now.origins.items 1 parts.items shells)) }
+    requires led { CanReadAll wiring.now 1 (map ins_of ports.now) }
+    ensures { OnOk result (AreShellsSoFar checked.now wiring.now ports.now nodes.old.items nodes.new.items) }
 {
-    let mut left = parts;
-    while let Some(part) = left.pop() {
-        let node = left.as_slice().len() as u32 + 1;
-        let shell = shell_of(alloc, wiring, node, part)?;
+    for i in 0..ports.len() {
+        let shell = shell_of(alloc, checked, wiring, i as u32, &ports[i])?;
         nodes.push(shell)?;
     }
     Ok(())
 }
 
-/// The shell of a part.
-fn shell_of(alloc: Global, wiring: &Wiring, node: u32, part: ShellPart) -> Result<Node, AllocError>
+/// The shell of a pearl, which has these ports.
+fn shell_of(
+    alloc: Global,
+    checked: &Checked,
+    wiring: &Wiring,
+    pearl: u32,
+    ports: &ShellPorts,
+) -> Result<Node, AllocError>
+    requires few { pearl < 4096 }
+    requires there { pearl < length (pearls checked.now) }
     requires wired { IsWired wiring.now }
-    requires led { AllByRecursion (CanRead wiring.now node) part.ins }
-    ensures { IfOk result (λ shell. (ins : List InBit) × (shell ≡ Shell part.pearl ins)
-        × ((channels : List Channel) → CarryAll channels wiring.now.reads.items wiring.now.bits.items
-        → AreInBits channels wiring.now.origins.items node part.ins ins)) }
+    requires led { AllByRecursion (CanRead wiring.now (pearl + 1)) ports.now.ins }
+    ensures { IfOk result (λ shell. (channels : List Channel) → CarryAll channels wiring.now.reads.items wiring.now.bits.items
+        → IsShellFor checked.now channels wiring.now.origins.items pearl ports.now shell) }
 {
-    let ins = bits_of(alloc, wiring, node, part.ins.as_slice())?;
-    let ShellPart { pearl, .. } = part;
+    let ins = bits_of(alloc, wiring, pearl + 1, ports.ins.as_slice())?;
+    let pearl = pearl_of(alloc, checked, pearl)?;
     Ok(Node::Shell { pearl, ins })
 }

@@ -1,58 +1,58 @@
-//! The pearls of a design, with the numbers of the columns of their inputs and outputs.
+//! The pearls of a design, and the numbers of the columns of their inputs and outputs.
 
-ghost use Rattle.std.specs.Prelude.{◌≡◌, ◌+◌, ◌<◌, ◌≤◌, length, IfOk};
-ghost use Rattle.lid_design.specs.Flat.{IsFlat};
+ghost use Rattle.std.specs.Prelude.{◌+◌, ◌<◌, ◌≤◌, length, IfOk};
 ghost use Rattle.lid_design.specs.Loops.{pearls};
 ghost use Rattle.lid_design.specs.Elaboration.{columns};
-ghost use Rattle.lid_net.specs.PearlParts.{IsShellPartOf, ArePartsOf, IsNumberedShell};
+ghost use Rattle.lid_net.specs.PearlParts.{AreShellPorts, ArePortsOf, AreNumberedPorts, IsPearlOf};
 
-use crate::part::ShellPart;
+use crate::ports::ShellPorts;
 use lid_check::Checked;
 use lid_check_parts::numbers_from;
-use lid_design::Flat;
 use lid_net_law::pearls_stand_for_columns;
 use lid_pearl::Pearl;
 use std::alloc::{AllocError, Global};
 
-/// The parts of all pearls, in order.
-pub(crate) fn collect_parts(alloc: Global, checked: &Checked) -> Result<Vec<ShellPart>, AllocError>
-    ensures { IfOk result (λ parts. ArePartsOf checked.now (length (columns checked.now)) parts.items) }
+/// The ports of all pearls, in order. No pearl is made.
+pub(crate) fn collect_ports(alloc: Global, checked: &Checked) -> Result<Vec<ShellPorts>, AllocError>
+    ensures { IfOk result (λ ports. ArePortsOf checked.now (length (columns checked.now)) ports.items) }
 {
     let _ = checked.design();
     let count = checked.pearls();
-    let mut parts = Vec::with_capacity(alloc, count as usize)?;
+    let mut ports = Vec::with_capacity(alloc, count as usize)?;
     for pearl in 0..count {
-        parts.push(part_of(alloc, checked, pearl)?)?;
+        ports.push(shell_ports(alloc, checked, pearl)?)?;
     }
-    Ok(parts)
+    Ok(ports)
 }
 
-/// The part of a pearl.
-fn part_of(alloc: Global, checked: &Checked, pearl: u32) -> Result<ShellPart, AllocError>
+/// The ports of a pearl.
+fn shell_ports(alloc: Global, checked: &Checked, pearl: u32) -> Result<ShellPorts, AllocError>
     requires { pearl < length (pearls checked.now) }
-    ensures { IfOk result (IsShellPartOf checked.now (length (columns checked.now)) pearl) }
+    ensures { IfOk result (AreShellPorts checked.now (length (columns checked.now)) pearl) }
 {
-    pearls_stand_for_columns();
     let _ = checked.network();
     let numbers = checked.part(pearl);
-    let flat = checked.flat(alloc, pearl)?;
-    number_flat(alloc, flat, numbers)
+    number_ports(alloc, numbers)
 }
 
-/// The part of a flat part whose columns have these numbers.
-fn number_flat(
-    alloc: Global,
-    flat: Flat,
-    numbers: lid_check::PearlPart,
-) -> Result<ShellPart, AllocError>
-    requires rules { IsFlat flat }
+/// The ports of a pearl whose columns have these numbers.
+fn number_ports(alloc: Global, numbers: lid_check::PearlPart) -> Result<ShellPorts, AllocError>
     requires ports { numbers.inputs + numbers.outputs ≤ numbers.nets }
     requires few { numbers.start + numbers.nets ≤ 1048576 }
-    ensures { IfOk result (IsNumberedShell numbers flat) }
+    ensures { IfOk result (AreNumberedPorts numbers) }
 {
     let outputs = numbers.start + numbers.inputs;
     let ins = numbers_from(alloc, numbers.start, numbers.inputs)?;
     let outs = numbers_from(alloc, outputs, numbers.outputs)?;
-    let pearl = Pearl::lay_out(alloc, flat)?;
-    Ok(ShellPart { pearl, ins, outs })
+    Ok(ShellPorts { ins, outs })
+}
+
+/// A pearl, by its number.
+pub(crate) fn pearl_of(alloc: Global, checked: &Checked, pearl: u32) -> Result<Pearl, AllocError>
+    requires { pearl < length (pearls checked.now) }
+    ensures { IfOk result (IsPearlOf checked.now pearl) }
+{
+    pearls_stand_for_columns();
+    let flat = checked.flat(alloc, pearl)?;
+    Pearl::lay_out(alloc, flat)
 }
