@@ -49,7 +49,7 @@ pub fn build(alloc: Global, checked: &Checked) -> Result<System, NetFault>
 /// its nodes: one for each 31 ports that a node reads of another, the last one shorter. No pearl is made.
 ///
 /// # Errors
-/// As those of `build`.
+/// Those of `build`.
 pub fn find_channels(alloc: Global, checked: &Checked) -> Result<Items<Channel>, NetFault>
     ensures graph { IfOk result (IsGraphOf checked.now) }
     ensures few { IfOk result (λ channels. length channels ≤ 16384) }
