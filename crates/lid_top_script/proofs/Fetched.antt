@@ -1,5 +1,5 @@
 -- The fetches of a run: those of the steps that lead into a script, and then those of that script.
-use Rattle.std.proofs.Common.{◌≡◌, ℕ, ◌≤◌, Bool, List, [], ◌++◌, Option, Result, Ok, Err, IfOk, IfErr, OnOk, inl, inr, refl, ◌∙◌, subst, arith}
+use Rattle.std.proofs.Common.{◌≡◌, ℕ, ◌≤◌, Bool, List, [], ◌++◌, Option, Result, Ok, Err, IfOk, IfErr, OnOk, inl, inr, refl, sym, ◌∙◌, subst, arith}
 use Rattle.std.specs.declared.alloc.Global.{Global}
 use Rattle.std.specs.declared.vec.Vec.{Vec}
 use Rattle.lid_base.proofs.Results.{if_ok, on_ok, if_err}
@@ -12,16 +12,17 @@ use Rattle.lid_stations.specs.Placements.{Links, links_of}
 use Rattle.lid_stall_text.specs.declared.stalls.Stall.{Stall}
 use Rattle.lid_top_script.specs.declared.fault.Stop.{Stop}
 use Rattle.lid_top_script.specs.Outputs.{Output, IsTextOf}
-use Rattle.lid_top_script.specs.Scripts.{gives, Script, end as ended, Reading, good, read_then, read_step, net_limit, check_step, system_step, wrapped_step, stalls_step, IsChecked}
-use Rattle.lid_top_script.specs.Wrapped.{Building, Wrapping}
-use Rattle.lid_top_script.specs.Causes.{Got, GotSystem, GotWrapped, GotStalls, FailsCheck, Misses, MissesSystem, MissesWrapped, MissesStations, IsCause, IsWant}
+use Rattle.lid_top_script.specs.Scripts.{gives, Script, end as ended, Reading, good, read_then, read_step, net_limit, check_step, system_step, wrapped_step, stalls_step, IsChecked, links}
+use Rattle.lid_top_script.specs.Wrapped.{Graphing, Building, Wrapping, graphing_of}
+use Rattle.lid_top_script.specs.Causes.{Got, GotChannels, GotSystem, GotWrapped, GotStalls, FailsCheck, Misses, MissesSystem, MissesWrapped, MissesStations, IsCause, IsWant}
 use Rattle.lid_top_script.specs.Fetches.{at_end, GoesBy}
 use Rattle.lid_top_script.specs.FetchSteps.{halt_of, StepsBy, FetchesFile, FetchesNamed, NamedCalls, NamedPart, FetchesWrapped, FetchesNothing}
 use Rattle.lid_top_script.specs.Whole.{RunsAnywhere, FetchesWhole, RunsBy}
 use Rattle.lid_top_script.proofs.Composition.{cause_here, cause_unchecked}
+use Rattle.lid_top_script.proofs.Channels.{built_channels}
 use Rattle.lid_top_script.proofs.Placements.{cause_unbuilt, cause_unwrapped}
-use Rattle.lid_top_script.proofs.Within.{Within, within_same, within_read, within_step, within_checked, within_built, within_wrapped, within_stalled, whole_within, whole_stopped, whole_given, whole_anywhere}
-use Rattle.lid_top_script.proofs.Going.{for_any, still_any, still_later, Leads, goes_last, leads_same, leads_read, leads_checked, leads_built, leads_wrapped, leads_stalled, leads_step, goes_wanting, goes_unchecked, goes_here, goes_unbuilt, goes_unwrapped, goes_for_cause, goes_nothing}
+use Rattle.lid_top_script.proofs.Within.{Within, within_same, within_read, within_step, within_checked, within_found, within_wrapped, within_stalled, whole_within, whole_stopped, whole_given, whole_anywhere}
+use Rattle.lid_top_script.proofs.Going.{for_any, still_any, still_later, Leads, goes_last, leads_same, leads_read, leads_checked, leads_found, leads_wrapped, leads_stalled, leads_step, goes_wanting, goes_unchecked, goes_here, goes_unbuilt, goes_unwrapped, goes_for_cause, goes_nothing}
 
 -- calls that came after others
 pub came_then : {A : Type 0} {P Q R : List A → Type 0} (old mid new : Option (List A)) → CameAs old mid P → CameAs mid new Q → ((first rest : List A) → P first → Q rest → R (first ++ rest)) → CameAs old new R
@@ -107,15 +108,22 @@ module _ {whole : Bool} {held now : List ℕ → Option (List ℕ)} {old new : O
     still = f.still;
   }
 
-  -- a netlist was fetched, read and checked, and its system built
-  pub made_built : {B : Type 0} {x : B} {net : List ℕ} {root : Option (List ℕ)} (next : Design → Links → Script) (b : Building) → GotSystem held net root b
-      → FetchesFile {A = B} whole (held net) net net_limit old new before after (Ok x) → now ≡ held → Made whole held now old new before after (next b.design (links_of b.system)) (system_step net root next)
-  made_built {net = net} {root = root} next b g f same = record {
-    within = within_built held net root next b g;
-    leads = (f.done.0, f.done.1, leads_built whole held net root next b f.done.0 g f.done.2);
+  -- a netlist was fetched, read and checked, and its channels found
+  pub made_found : {B : Type 0} {x : B} {net : List ℕ} {root : Option (List ℕ)} (next : Design → Links → Script) (g : Graphing) → GotChannels held net root g
+      → FetchesFile {A = B} whole (held net) net net_limit old new before after (Ok x) → now ≡ held → Made whole held now old new before after (next g.design (links g.design g.channels)) (system_step net root next)
+  made_found {net = net} {root = root} next g h f same = record {
+    within = within_found held net root next g h;
+    leads = (f.done.0, f.done.1, leads_found whole held net root next g f.done.0 h f.done.2);
     same = same;
     still = f.still;
   }
+
+  -- and its system built
+  pub made_built : {B : Type 0} {x : B} {net : List ℕ} {root : Option (List ℕ)} (next : Design → Links → Script) (b : Building) → GotSystem held net root b
+      → FetchesFile {A = B} whole (held net) net net_limit old new before after (Ok x) → now ≡ held → Made whole held now old new before after (next b.design (links_of b.system)) (system_step net root next)
+  made_built {net = net} {root = root} next b g f same =
+      subst (λ (l : Links). Made whole held now old new before after (next b.design l) (system_step net root next)) (sym g.builds.links_are)
+      (made_found next (graphing_of b) (built_channels b g) f same)
 
   -- and the placement of the job is known
   pub made_wrapped : {B : Type 0} {x : B} {net : List ℕ} {stations root : Option (List ℕ)} (next : Design → Links → Placement → Script) (w : Wrapping) → GotWrapped held net stations root w

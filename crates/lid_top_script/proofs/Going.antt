@@ -4,7 +4,6 @@ use Rattle.std.proofs.lemmas.List.{take_all}
 use Rattle.lid_base.specs.declared.outside.Fetch.{Fetch}
 use Rattle.lid_base_io.specs.Calls.{fetches_of, IsFetching, IsFetchingPart}
 use Rattle.lid_design.specs.declared.Design.{Design}
-use Rattle.lid_system.specs.declared.Channel.{Channel}
 use Rattle.lid_stations.specs.declared.placement.Placement.{Placement}
 use Rattle.lid_stations.specs.Placements.{Links, links_of, no_relays}
 use Rattle.lid_stall_text.specs.declared.stalls.Stall.{Stall}
@@ -12,10 +11,11 @@ use Rattle.lid_top_refusals.specs.Refusals.{refusal_line}
 use Rattle.lid_top_script.specs.declared.fault.Stop.{Stop}
 use Rattle.lid_top_script.specs.declared.fault.Stop.TheVariants.{Refused, Read, Memory, Denied}
 use Rattle.lid_top_script.specs.Scripts.{Ending, refuses, denies, Rereading, Script, fetch, again, decide, end as ended, Reading, good, read_then, read_step, net_limit, net_reading, check_step, net_step, system_step, wrapped_step, IsChecked, IsUnchecked, HasChannels, IsOverfull, links, text_limit, stations_read, placement_step, stalls_read, stalls_step, EndsIn, ReachesFetch}
-use Rattle.lid_top_script.specs.Wrapped.{Building, Wrapping}
-use Rattle.lid_top_script.specs.Causes.{Got, GotSystem, GotPlacement, GotWrapped, GotStalls, Refuses, Declines, HasTooMany, FailsCheck, Misses, MissesSystem, MissesPlacement, MissesStalls, IsCause, IsWant}
+use Rattle.lid_top_script.specs.Wrapped.{Graphing, Building, Wrapping, graphing_of}
+use Rattle.lid_top_script.specs.Causes.{Got, GotChannels, GotSystem, GotPlacement, GotWrapped, GotStalls, Refuses, Declines, HasTooMany, FailsCheck, Misses, MissesSystem, MissesPlacement, MissesStalls, IsCause, IsWant}
 use Rattle.lid_top_script.specs.Fetches.{Halt, at_end, between, refetches_of, IsRefetchingPart, GoesBy}
 use Rattle.lid_top_script.specs.FetchSteps.{halt_of, StillAt, FetchesFor, NamedCalls, NamedPart, WrappedCalls, MissesWrappedBy, FetchesNothing}
+use Rattle.lid_top_script.proofs.Channels.{built_channels}
 
 -- no fetches are some first ones of a file
 none_of : (whole : Bool) (held : Option (List ℕ)) (name : List ℕ) (limit : ℕ) → IsFetchingPart whole held name limit []
@@ -113,25 +113,25 @@ module _ (whole : Bool) (held : List ℕ → Option (List ℕ)) where
   pub leads_checked : (root : Option (List ℕ)) (d : Design) (next : Design → Script) (checked : Design) → IsChecked root d checked → Leads [] (next checked) (check_step root d next)
   leads_checked root d = leads_decided (IsChecked root d) (IsUnchecked root d)
 
-  -- the system of a design was built
-  leads_linked : (d : Design) (next : Links → Script) (channels : List Channel) (l : Links) → HasChannels d channels → l ≡ links d channels → Leads [] (next l) (net_step d (λ channels. next (links d channels)))
-  leads_linked d next channels l has is =
-      subst (λ (x : Links). Leads [] (next x) (net_step d (λ channels. next (links d channels)))) (sym is)
-      (leads_decided (HasChannels d) (IsOverfull d) (λ channels. next (links d channels)) channels has)
+  -- a netlist was fetched, read and checked, and its channels found
+  pub leads_found : (net : List ℕ) (root : Option (List ℕ)) (next : Design → Links → Script) (g : Graphing) (first : List Fetch) → GotChannels held net root g → IsFetching whole (held net) net net_limit first
+      → Leads first (next g.design (links g.design g.channels)) (system_step net root next)
+  leads_found net root next g first h f =
+      let on = next g.design (links g.design g.channels) in
+      let found : Design → Script = λ checked. net_step checked (λ channels. next checked (links checked channels)) in
+      let checked_on : Design → Script = λ d. check_step root d found in
+      leads_then first on (found g.design) (system_step net root next)
+      (leads_then first (found g.design) (checked_on h.design) (system_step net root next)
+      (leads_read net net_limit net_reading checked_on h.design first h.got f)
+      (leads_checked root h.design found g.design h.finds.is_checked))
+      (leads_decided (HasChannels g.design) (IsOverfull g.design) (λ channels. next g.design (links g.design channels)) g.channels h.finds.has)
 
-  -- a netlist was fetched, read and checked, and its system built
+  -- and its system built
   pub leads_built : (net : List ℕ) (root : Option (List ℕ)) (next : Design → Links → Script) (b : Building) (first : List Fetch) → GotSystem held net root b → IsFetching whole (held net) net net_limit first
       → Leads first (next b.design (links_of b.system)) (system_step net root next)
   leads_built net root next b first g f =
-      let l = links_of b.system in
-      let on = next b.design in
-      let built : Design → Script = λ checked. net_step checked (λ channels. next checked (links checked channels)) in
-      let checked_on : Design → Script = λ d. check_step root d built in
-      leads_then first (on l) (built b.design) (system_step net root next)
-      (leads_then first (built b.design) (checked_on g.design) (system_step net root next)
-      (leads_read net net_limit net_reading checked_on g.design first g.got f)
-      (leads_checked root g.design built b.design g.builds.is_checked))
-      (leads_linked b.design on b.system.channels l g.builds.has g.builds.links_are)
+      subst (λ (l : Links). Leads first (next b.design l) (system_step net root next)) (sym g.builds.links_are)
+      (leads_found net root next (graphing_of b) first (built_channels b g) f)
 
   -- the placement of the job is known
   leads_placed : (l : Links) (next : Placement → Script) (stations : Option (List ℕ)) (p : Placement) (first : List Fetch) → GotPlacement held l stations p → NamedCalls whole held stations first → Leads first (next p) (placement_step l stations next)

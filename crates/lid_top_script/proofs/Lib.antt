@@ -1,5 +1,6 @@
 pub mod Composition
 pub mod Readings
+pub mod Channels
 pub mod Placements
 pub mod Traces
 pub mod Within

@@ -5,7 +5,6 @@ use Rattle.std.specs.declared.alloc.Global.{Global}
 use Rattle.std.specs.declared.vec.Vec.{Vec}
 use Rattle.lid_base.proofs.Results.{if_ok, on_ok, if_err}
 use Rattle.lid_design.specs.declared.Design.{Design}
-use Rattle.lid_system.specs.declared.Channel.{Channel}
 use Rattle.lid_stations.specs.declared.placement.Placement.{Placement}
 use Rattle.lid_stations.specs.Placements.{Links, links_of}
 use Rattle.lid_stall_text.specs.declared.stalls.Stall.{Stall}
@@ -16,12 +15,13 @@ use Rattle.lid_top_script.specs.declared.fault.JobEnd.{JobEnd}
 use Rattle.lid_top_script.specs.declared.fault.JobEnd.TheVariants.{Stopped, Unwritten}
 use Rattle.lid_top_script.specs.Outputs.{Output, IsTextOf}
 use Rattle.lid_top_script.specs.Scripts.{Ending, refuses, denies, gives, Script, decide, end as ended, Reading, good, read_then, read_step, net_limit, net_reading, check_step, net_step, system_step, wrapped_step, IsChecked, IsUnchecked, HasChannels, IsOverfull, links, text_limit, stations_read, placement_step, stalls_read, stalls_step, EndsIn, ReachesFetch}
-use Rattle.lid_top_script.specs.Wrapped.{Building, Wrapping}
-use Rattle.lid_top_script.specs.Causes.{Got, GotSystem, GotPlacement, GotWrapped, GotStalls, IsCause, IsJobEnd, IsWant}
+use Rattle.lid_top_script.specs.Wrapped.{Graphing, Building, Wrapping, graphing_of}
+use Rattle.lid_top_script.specs.Causes.{Got, GotChannels, GotSystem, GotPlacement, GotWrapped, GotStalls, IsCause, IsJobEnd, IsWant}
 use Rattle.lid_top_script.specs.Statuses.{HasText, Writes, WritesPrefix, TellsAll, Leaves}
 use Rattle.lid_top_script.specs.Early.{RunsEarly}
 use Rattle.lid_top_script.specs.Whole.{RunsWhole, RunsAnywhere}
 use Rattle.lid_top_script.proofs.Composition.{rose_later, want_anywhere}
+use Rattle.lid_top_script.proofs.Channels.{built_channels}
 
 pub record Within (held : List ℕ → Option (List ℕ)) (inner outer : Script) : Type 0 where
   pub ends : (ending : Ending) → EndsIn held inner ending → EndsIn held outer ending
@@ -55,12 +55,6 @@ within_decided held Good Bad next a g = record {
 pub within_checked : (held : List ℕ → Option (List ℕ)) (root : Option (List ℕ)) (d : Design) (next : Design → Script) (checked : Design) → IsChecked root d checked → Within held (next checked) (check_step root d next)
 within_checked held root d = within_decided held (IsChecked root d) (IsUnchecked root d)
 
--- the system of a design was built
-within_linked : (held : List ℕ → Option (List ℕ)) (d : Design) (next : Links → Script) (channels : List Channel) (l : Links) → HasChannels d channels → l ≡ links d channels → Within held (next l) (net_step d (λ channels. next (links d channels)))
-within_linked held d next channels l has is =
-    subst (λ (x : Links). Within held (next x) (net_step d (λ channels. next (links d channels)))) (sym is)
-    (within_decided held (HasChannels d) (IsOverfull d) (λ channels. next (links d channels)) channels has)
-
 -- a step in a step
 pub within_both : (held : List ℕ → Option (List ℕ)) (inner between outer : Script) → Within held inner between → Within held between outer → Within held inner outer
 within_both held inner between outer v w = record {
@@ -68,17 +62,23 @@ within_both held inner between outer v w = record {
   reaches = λ file r. w.reaches file (v.reaches file r);
 }
 
--- a netlist was fetched, read and checked, and its system built
+-- a netlist was fetched, read and checked, and its channels found
+pub within_found : (held : List ℕ → Option (List ℕ)) (net : List ℕ) (root : Option (List ℕ)) (next : Design → Links → Script) (g : Graphing) → GotChannels held net root g → Within held (next g.design (links g.design g.channels)) (system_step net root next)
+within_found held net root next g h =
+    let on = next g.design (links g.design g.channels) in
+    let found : Design → Script = λ checked. net_step checked (λ channels. next checked (links checked channels)) in
+    let checked_on : Design → Script = λ d. check_step root d found in
+    within_both held on (checked_on h.design) (system_step net root next)
+    (within_both held on (found g.design) (checked_on h.design)
+    (within_decided held (HasChannels g.design) (IsOverfull g.design) (λ channels. next g.design (links g.design channels)) g.channels h.finds.has)
+    (within_checked held root h.design found g.design h.finds.is_checked))
+    (within_read held net net_limit net_reading checked_on h.design h.got)
+
+-- and its system built
 pub within_built : (held : List ℕ → Option (List ℕ)) (net : List ℕ) (root : Option (List ℕ)) (next : Design → Links → Script) (b : Building) → GotSystem held net root b → Within held (next b.design (links_of b.system)) (system_step net root next)
 within_built held net root next b g =
-    let l = links_of b.system in
-    let on = next b.design in
-    let built : Design → Script = λ checked. net_step checked (λ channels. next checked (links checked channels)) in
-    let checked_on : Design → Script = λ d. check_step root d built in
-    within_both held (on l) (checked_on g.design) (system_step net root next)
-    (within_both held (on l) (built b.design) (checked_on g.design) (within_linked held b.design on b.system.channels l g.builds.has g.builds.links_are)
-    (within_checked held root g.design built b.design g.builds.is_checked))
-    (within_read held net net_limit net_reading checked_on g.design g.got)
+    subst (λ (l : Links). Within held (next b.design l) (system_step net root next)) (sym g.builds.links_are)
+    (within_found held net root next (graphing_of b) (built_channels b g))
 
 -- the placement of the job is known
 pub within_placed : (held : List ℕ → Option (List ℕ)) (l : Links) (next : Placement → Script) (stations : Option (List ℕ)) (p : Placement) → GotPlacement held l stations p → Within held (next p) (placement_step l stations next)

@@ -34,7 +34,7 @@ use Rattle.lid_gen.specs.declared.fault.GenFault.{GenFault}
 use Rattle.lid_gen.specs.declared.fault.GenFault.TheVariants as gen
 use Rattle.lid_top_refusals.specs.Faults.{read_line, write_line, memory_line, denied_line}
 use Rattle.lid_top_refusals.specs.Refusals.{refusal_line}
-use Rattle.lid_top_script.specs.Wrapped.{Building, Wrapping}
+use Rattle.lid_top_script.specs.Wrapped.{Graphing, Building, Wrapping}
 use Rattle.lid_top_script.specs.Scripts.{refuses, denies, Script, Reading, good, bad, net_limit, net_reading, text_limit, stations_read, stalls_read, links, IsFetched, IsChecked, IsUnchecked, HasChannels, IsOverfull, EndsIn, ReachesFetch}
 
 -- a fault that is want of memory is no refusal
@@ -134,6 +134,11 @@ Misses held name limit read before after (Read file) = (file.now ≡ name) × Ro
 Misses held name limit read before after Memory = Unit {0}
 Misses held name limit read before after Denied = ⊥
 
+-- the channels of a design that is accepted
+pub record FindsChannels (root : Option (List ℕ)) (d : Design) (g : Graphing) : Type 0 where
+  pub is_checked : IsChecked root d g.design
+  pub has : HasChannels g.design g.channels
+
 -- the system of a design that is accepted
 pub record BuildsSystem (root : Option (List ℕ)) (d : Design) (b : Building) : Type 0 where
   pub is_checked : IsChecked root d b.design
@@ -146,9 +151,15 @@ pub record HasTooMany (root : Option (List ℕ)) (d : Design) (line : List ℕ) 
   pub is_checked : IsChecked root d checked
   pub refused : IsOverfull checked line
 
--- why a design has no system: it is not accepted, or has too many channels
+-- why a design has no channels, and no system: it is not accepted, or has too many channels
 abbrev pub FailsSystem : Option (List ℕ) → Design → Stop → Type 0
 FailsSystem root d = Refuses (λ line. IsUnchecked root d line ⊎ HasTooMany root d line)
+
+-- the channels of a netlist that is fetched and read
+pub record GotChannels (held : List ℕ → Option (List ℕ)) (net : List ℕ) (root : Option (List ℕ)) (g : Graphing) : Type 0 where
+  pub design : Design
+  pub got : Got held net net_limit net_reading design
+  pub finds : FindsChannels root design g
 
 -- the system of a netlist that is fetched and read
 pub record GotSystem (held : List ℕ → Option (List ℕ)) (net : List ℕ) (root : Option (List ℕ)) (b : Building) : Type 0 where
@@ -156,13 +167,13 @@ pub record GotSystem (held : List ℕ → Option (List ℕ)) (net : List ℕ) (r
   pub got : Got held net net_limit net_reading design
   pub builds : BuildsSystem root design b
 
--- a netlist that is read has no system, or is not read
+-- a netlist that is read has no channels, and no system
 pub record RefusesSystem (held : List ℕ → Option (List ℕ)) (net : List ℕ) (root : Option (List ℕ)) (line : List ℕ) : Type 0 where
   pub design : Design
   pub got : Got held net net_limit net_reading design
   pub refused : IsUnchecked root design line ⊎ HasTooMany root design line
 
--- why there is no system
+-- why there are no channels, and no system: the netlist is not read, or has none
 abbrev pub MissesSystem : (List ℕ → Option (List ℕ)) → List ℕ → Option (List ℕ) → (List ℕ → ℕ) → (List ℕ → ℕ) → Stop → Type 0
 MissesSystem held net root before after (Refused refusal) = RefusesFile held net net_limit net_reading (refusal_line refusal) ⊎ RefusesSystem held net root (refusal_line refusal)
 MissesSystem held net root before after (Read file) = (file.now ≡ net) × Rose (before net) (after net)

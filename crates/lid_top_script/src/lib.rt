@@ -19,5 +19,5 @@ pub use scheduling::ScheduleText;
 pub use stalling::read_job_stalls;
 pub use steps::{NetText, PackedText, accept};
 pub use tracing::judge_trace;
-pub use wrapped::{Built, NetFiles, Wrapped};
-pub use wrapping::{read_system, read_wrapped};
+pub use wrapped::{Built, Graphed, NetFiles, Wrapped};
+pub use wrapping::{read_channels, read_system, read_wrapped};

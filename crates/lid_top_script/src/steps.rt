@@ -11,11 +11,11 @@ ghost use Rattle.lid_top_script.specs.Causes.{FailsCheck, FailsNet};
 
 use crate::fault::{Stop, blif_stop, check_stop, net_stop, rows_stop};
 use crate::reading::FileText;
-use lid_base::Name;
+use lid_base::{Items, Name};
 use lid_check::{Checked, check};
 use lid_design::Design;
-use lid_net::build;
-use lid_system::System;
+use lid_net::{build, find_channels};
+use lid_system::{Channel, System};
 use lid_texts_feed::read_packed;
 use lid_texts_packed::PackedRows;
 use std::alloc::Global;
@@ -91,6 +91,17 @@ pub fn accept<'a>(alloc: Global, design: Design, root: &Option<Name>) -> Result<
     match check(alloc, design, root.as_ref()) {
         Ok(checked) => Ok(checked),
         Err(fault) => Err(check_stop(fault)),
+    }
+}
+
+/// Finds the channels of an accepted design.
+pub(crate) fn channels_of<'a>(alloc: Global, checked: &Checked) -> Result<Items<Channel>, Stop<'a>>
+    ensures ok { IfOk result (HasChannels checked.now) }
+    ensures err { IfErr result (FailsNet checked.now) }
+{
+    match find_channels(alloc, checked) {
+        Ok(channels) => Ok(channels),
+        Err(fault) => Err(net_stop(fault)),
     }
 }
 

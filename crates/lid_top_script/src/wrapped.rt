@@ -1,11 +1,11 @@
-//! Accepted designs with their systems and the stations of these.
+//! Accepted designs with their channels, with their systems, and with the stations of these.
 
 ghost use Rattle.std.specs.Prelude.{◌≡◌};
 
-use lid_base::{Name, Text};
+use lid_base::{Items, Name, Text};
 use lid_check::Checked;
 use lid_stations::Placement;
-use lid_system::System;
+use lid_system::{Channel, System};
 use std::convert::AsStr;
 use std::marker::Model;
 
@@ -33,6 +33,26 @@ impl<'a> NetFiles<'a> {
             root,
         }
     }
+}
+
+/// An accepted design with its channels, without the nodes that they join. A contract sees both.
+#[derive(Drop)]
+pub struct Graphed {
+    /// The design.
+    pub checked: Checked,
+    /// Its channels.
+    pub channels: Items<Channel>,
+}
+
+impl Model for Graphed {
+    ghost use Rattle.lid_top_script.specs.Wrapped.{Graphing};
+    ghost use Rattle.lid_top_script.specs.Scripts.{HasChannels};
+
+    ghost Value = { Graphing };
+
+    ghost view = { λ g. record { design = g.checked; channels = g.channels } };
+
+    ghost invariant = { λ g. HasChannels g.checked g.channels };
 }
 
 /// An accepted design with its system. A contract sees both.

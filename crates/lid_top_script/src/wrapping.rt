@@ -2,18 +2,33 @@
 
 ghost use Rattle.std.specs.Prelude.{◌≡◌, ℕ, ◌≤◌, List, IfOk, IfErr};
 ghost use Rattle.lid_design.specs.WellFormed.{IsWellFormed};
-ghost use Rattle.lid_top_script.specs.Causes.{BuildsSystem, FailsSystem, GotSystem, MissesSystem, GotWrapped, MissesWrapped};
+ghost use Rattle.lid_top_script.specs.Causes.{FindsChannels, BuildsSystem, FailsSystem, GotChannels, GotSystem, MissesSystem, GotWrapped, MissesWrapped};
 ghost use Rattle.lid_top_script.specs.FetchSteps.{FetchesFile, FetchesWrapped};
 ghost use Rattle.lid_top_script.specs.Scripts.{net_limit};
 
 use crate::fault::Stop;
 use crate::placing::read_placement;
 use crate::reading::read_file;
-use crate::steps::{NetText, accept, build_system};
-use crate::wrapped::{Built, NetFiles, Wrapped};
+use crate::steps::{NetText, accept, build_system, channels_of};
+use crate::wrapped::{Built, Graphed, NetFiles, Wrapped};
 use lid_base::{Name, Shelf};
 use lid_design::Design;
 use std::alloc::Global;
+
+/// Accepts a design that was read, and finds its channels.
+fn graph_design<'a>(alloc: Global, design: Design, root: &Option<Name>) -> Result<Graphed, Stop<'a>>
+    requires { IsWellFormed design }
+    ensures ok { IfOk result (FindsChannels root.now design) }
+    ensures err { IfErr result (FailsSystem root.now design) }
+{
+    match accept(alloc, design, root) {
+        Ok(checked) => match channels_of(alloc, &checked) {
+            Ok(channels) => Ok(Graphed { checked, channels }),
+            Err(stop) => Err(stop),
+        },
+        Err(stop) => Err(stop),
+    }
+}
 
 /// Accepts a design that was read, and builds its system.
 fn build_design<'a>(alloc: Global, design: Design, root: &Option<Name>) -> Result<Built, Stop<'a>>
@@ -26,6 +41,26 @@ fn build_design<'a>(alloc: Global, design: Design, root: &Option<Name>) -> Resul
             Ok(system) => Ok(Built { checked, system }),
             Err(stop) => Err(stop),
         },
+        Err(stop) => Err(stop),
+    }
+}
+
+/// Fetches, reads and accepts a netlist, and finds its channels, without the nodes that they join.
+pub fn read_channels<'a, S: Shelf>(
+    alloc: Global,
+    shelf: &mut S,
+    net: &'a str,
+    root: &Option<Name>,
+) -> Result<Graphed, Stop<'a>>
+    ensures ok { IfOk result (GotChannels (S.held shelf.old) net.now root.now) }
+    ensures err { IfErr result (MissesSystem (S.held shelf.old) net.now root.now (S.faults shelf.old) (S.faults shelf.new)) }
+    ensures fetched { FetchesFile S.whole (S.held shelf.old net.now) net.now net_limit
+        (S.fetches shelf.old) (S.fetches shelf.new) (S.faults shelf.old) (S.faults shelf.new) result }
+    ensures kept { S.held shelf.new ≡ S.held shelf.old }
+    ensures grows { (q : List ℕ) → S.faults shelf.old q ≤ S.faults shelf.new q }
+{
+    match read_file(alloc, shelf, net, &NetText) {
+        Ok(design) => graph_design(alloc, design, root),
         Err(stop) => Err(stop),
     }
 }

@@ -12,7 +12,7 @@ use lid_base::{Items, Name, Shelf, copy_name};
 use lid_check::Checked;
 use lid_system::Channel;
 use lid_texts_runs::{ChannelLine, Report, print_report};
-use lid_top_script::{Built, Stop, read_system};
+use lid_top_script::{Graphed, Stop, read_channels};
 use std::alloc::{AllocError, Global};
 
 /// What is told of a channel.
@@ -48,13 +48,13 @@ fn root_name(checked: &Checked) -> &Name
     &design.models.as_slice()[design.root as usize].name
 }
 
-/// What is told of an accepted design and its system.
-fn report_of(alloc: Global, built: &Built) -> Result<Report, AllocError>
-    ensures { IfOk result (λ report. report ≡ report_of built.now.design built.now.system.channels) }
+/// What is told of an accepted design and its channels.
+fn report_of(alloc: Global, graphed: &Graphed) -> Result<Report, AllocError>
+    ensures { IfOk result (λ report. report ≡ report_of graphed.now.design graphed.now.channels) }
 {
-    let checked = &built.checked;
+    let checked = &graphed.checked;
     let root = copy_name(alloc, root_name(checked).as_slice())?;
-    let channels = lines_of(alloc, built.system.channels.as_slice())?;
+    let channels = lines_of(alloc, graphed.channels.as_slice())?;
     Ok(Report {
         root,
         shells: checked.pearls(),
@@ -66,22 +66,22 @@ fn report_of(alloc: Global, built: &Built) -> Result<Report, AllocError>
     })
 }
 
-/// What is printed of an accepted design and its system.
-fn print_built(alloc: Global, built: &Built) -> Result<Vec<u8>, AllocError>
-    ensures { IfOk result (λ text. text.items ≡ report_text (report_of built.now.design built.now.system.channels)) }
+/// What is printed of an accepted design and its channels.
+fn print_graphed(alloc: Global, graphed: &Graphed) -> Result<Vec<u8>, AllocError>
+    ensures { IfOk result (λ text. text.items ≡ report_text (report_of graphed.now.design graphed.now.channels)) }
 {
-    let report = report_of(alloc, built)?;
+    let report = report_of(alloc, graphed)?;
     let mut text = Vec::new(alloc);
     print_report(&report, &mut text)?;
     Ok(text)
 }
 
 /// The same, with want of memory as a reason to stop.
-fn built_text<'a>(alloc: Global, built: &Built) -> Result<Vec<u8>, Stop<'a>>
-    ensures ok { IfOk result (λ text. text.items ≡ report_text (report_of built.now.design built.now.system.channels)) }
+fn graphed_text<'a>(alloc: Global, graphed: &Graphed) -> Result<Vec<u8>, Stop<'a>>
+    ensures ok { IfOk result (λ text. text.items ≡ report_text (report_of graphed.now.design graphed.now.channels)) }
     ensures err { IfErr result IsWant }
 {
-    match print_built(alloc, built) {
+    match print_graphed(alloc, graphed) {
         Ok(text) => Ok(text),
         Err(_) => Err(Stop::Memory),
     }
@@ -96,8 +96,8 @@ pub fn check_text<'a, S: Shelf>(
 ) -> Result<Vec<u8>, Stop<'a>>
     ensures { RunsOn S.whole S.held S.fetches S.faults shelf.old shelf.new (check_script net.now root.now) result }
 {
-    match read_system(alloc, shelf, net, root) {
-        Ok(built) => built_text(alloc, &built),
+    match read_channels(alloc, shelf, net, root) {
+        Ok(graphed) => graphed_text(alloc, &graphed),
         Err(stop) => Err(stop),
     }
 }
