@@ -1,6 +1,5 @@
-use Rattle.std.proofs.Common.{◌≡◌, ◌+◌, ℕ, [], List, length, map, take, slice_index_or, sym, ◌∙◌, ap, subst, arith}
-use Rattle.std.proofs.lemmas.List.{length-map, length-set}
-use Rattle.lid_base.specs.Lists.{Among}
+use Rattle.std.proofs.Common.{◌≡◌, ℕ, [], List, length, slice_index_or, sym, ◌∙◌, ap, arith}
+use Rattle.std.proofs.lemmas.List.{length-map}
 use Rattle.lid_base.proofs.Lists.{among_at}
 use Rattle.lid_check_elab.specs.declared.driver.ColumnDriver.{ColumnDriver}
 use Rattle.lid_check_elab.specs.Elaborations.{driver_reads, shown_driver}
@@ -37,7 +36,7 @@ push_cell-requires-clause-ins c =
     let within = c.requires.order.within net (among_at order i 0 h) in
     let graph = length-map inner driver_reads in
     let nets = long source.drivers.now source.part c.requires.part in
-    c.from_vec.ensures ∙ c.in_ok-ins.ensures ∙ c.list.ensures
+    c.from_vec.ensures ∙ c.in_ok-ins.ensures.items_if_clones_equal (λ x y same. same) ∙ c.list.ensures
     ∙ ap (λ (rows : List (List ℕ)). slice_index_or rows net []) c.requires.reads
     ∙ reads_here inner net
     ∙ ap driver_reads (at source.drivers.now source.part c.requires.part net (omega arith))
