@@ -18,7 +18,7 @@ list_pearls-requires c =
 pub mark_first-requires : goal.mark_first-requires
 mark_first-requires c =
     let are = are_in c.survey-survey.result.now c.args.columns.now.design (c.survey-survey.ensures.same ∙ c.judged.ensures.same) c.args.columns.now.drivers c.args.columns.now.starts c.judged.ensures.elaborated c.args.graph.now.reads.now c.requires.reads c.starts.result.now c.starts.ensures c.in_ok-pearls.pearls c.in_ok-pearls.ensures in
-    subst (λ (n : ℕ). n ≤ length c.args.graph.now.reads.now) (sym c.count_cut.ensures) are.within
+    subst (λ (n : ℕ). c.count_cut.result ≤ n) (sym c.len.ensures) (subst (λ (n : ℕ). n ≤ length c.args.graph.now.reads.now) (sym c.count_cut.ensures) are.within)
 
 pub find_past-requires-clause-fit : goal.find_past-requires-clause-fit
 find_past-requires-clause-fit c =
