@@ -348,7 +348,7 @@ fn what_is_at_fault_is_told_and_nothing_is_written(rt: HostRuntime) -> Result<()
     Ok(())
 }
 
-/// The commands that build a system, of a netlist with too many channels; no other file is there.
+/// The commands that find channels, of a netlist with too many channels; no other file is there.
 static CROWDED: &[&str] = &[
     "check net",
     "clock net none --stations none --stalls none --trace 524289",

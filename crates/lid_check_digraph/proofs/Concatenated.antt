@@ -49,49 +49,49 @@ module _ (all starts : List ℕ) where
       ∙ (ap (λ (xs : List (List ℕ)). xs ++ f n ∷ []) (each_same f (list_at all starts) 0 n (λ j h. begun_list j (omega arith)))
       ∙ ap (λ (x : List ℕ). lists_of all starts ++ x ∷ []) begun_last))
 
-  -- the last list gets a number
-  module _ (x : ℕ) where
-    more_long : length (all ++ x ∷ []) ≡ length all + 1
-    more_long = length-append all (x ∷ [])
+  -- the last list gets more numbers
+  module _ (new : List ℕ) where
+    more_long : length (all ++ new) ≡ length all + length new
+    more_long = length-append all new
 
-    more_end : (k : ℕ) → k + 1 < length starts → end_at (all ++ x ∷ []) starts k ≡ end_at all starts k
-    more_end k more = get_or_default starts (k + 1) (length (all ++ x ∷ [])) (length all) more
+    more_end : (k : ℕ) → k + 1 < length starts → end_at (all ++ new) starts k ≡ end_at all starts k
+    more_end k more = get_or_default starts (k + 1) (length (all ++ new)) (length all) more
 
-    more_list : AreStarts all starts → (k : ℕ) → k + 1 < length starts → list_at (all ++ x ∷ []) starts k ≡ list_at all starts k
+    more_list : AreStarts all starts → (k : ℕ) → k + 1 < length starts → list_at (all ++ new) starts k ≡ list_at all starts k
     more_list are k more =
         let s = get_or starts k 0 in
         let e = end_at all starts k in
         let bound = end_bounds are k (omega arith) in
         let in_all = are.within k (omega arith) in
         let dropped : length (drop s all) ≡ length all - s = length-drop s all in
-        ap (λ (end : ℕ). take (end - s) (drop s (all ++ x ∷ []))) (more_end k more)
-        ∙ (ap (λ (xs : List ℕ). take (e - s) xs) (drop-append-le s all (x ∷ []) in_all)
-        ∙ take-append-le (e - s) (drop s all) (x ∷ []) (omega arith))
+        ap (λ (end : ℕ). take (end - s) (drop s (all ++ new))) (more_end k more)
+        ∙ (ap (λ (xs : List ℕ). take (e - s) xs) (drop-append-le s all new in_all)
+        ∙ take-append-le (e - s) (drop s all) new (omega arith))
 
-    more_last : AreStarts all starts → (k : ℕ) → k + 1 ≡ length starts → list_at (all ++ x ∷ []) starts k ≡ list_at all starts k ++ x ∷ []
+    more_last : AreStarts all starts → (k : ℕ) → k + 1 ≡ length starts → list_at (all ++ new) starts k ≡ list_at all starts k ++ new
     more_last are k is =
         let s = get_or starts k 0 in
         let in_all = are.within k (omega arith) in
         let dropped : length (drop s all) ≡ length all - s = length-drop s all in
-        let longer : length (drop s all ++ x ∷ []) ≡ length (drop s all) + 1 = length-append (drop s all) (x ∷ []) in
+        let longer : length (drop s all ++ new) ≡ length (drop s all) + length new = length-append (drop s all) new in
         let long = more_long in
-        let new_end : end_at (all ++ x ∷ []) starts k ≡ length all + 1 = get_or_past starts (k + 1) (length (all ++ x ∷ [])) (omega arith) ∙ long in
+        let new_end : end_at (all ++ new) starts k ≡ length all + length new = get_or_past starts (k + 1) (length (all ++ new)) (omega arith) ∙ long in
         let old_end : end_at all starts k ≡ length all = get_or_past starts (k + 1) (length all) (omega arith) in
         let old : list_at all starts k ≡ drop s all = ap (λ (e : ℕ). take (e - s) (drop s all)) old_end ∙ take_rest all s in
-        ap (λ (end : ℕ). take (end - s) (drop s (all ++ x ∷ []))) new_end
-        ∙ (ap (λ (xs : List ℕ). take (length all + 1 - s) xs) (drop-append-le s all (x ∷ []) in_all)
-        ∙ (take_all (length all + 1 - s) (drop s all ++ x ∷ []) (omega arith)
-        ∙ ap (λ (xs : List ℕ). xs ++ x ∷ []) (sym old)))
+        ap (λ (end : ℕ). take (end - s) (drop s (all ++ new))) new_end
+        ∙ (ap (λ (xs : List ℕ). take (length all + length new - s) xs) (drop-append-le s all new in_all)
+        ∙ (take_all (length all + length new - s) (drop s all ++ new) (omega arith)
+        ∙ ap (λ (xs : List ℕ). xs ++ new) (sym old)))
 
-    pub more : AreStarts all starts → (lists : List (List ℕ)) (last : List ℕ) → lists_of all starts ≡ lists ++ last ∷ [] → lists_of (all ++ x ∷ []) starts ≡ lists ++ (last ++ x ∷ []) ∷ []
+    pub more : AreStarts all starts → (lists : List (List ℕ)) (last : List ℕ) → lists_of all starts ≡ lists ++ last ∷ [] → lists_of (all ++ new) starts ≡ lists ++ (last ++ new) ∷ []
     more are lists last is =
         let m = length lists in
         let f = list_at all starts in
-        let g = list_at (all ++ x ∷ []) starts in
+        let g = list_at (all ++ new) starts in
         let count : length starts ≡ m + 1 = sym lists_length ∙ (ap length is ∙ length-append lists (last ∷ [])) in
         let front : from_each f 0 m ≡ lists = sym (take_each f 0 (length starts) m (omega arith)) ∙ (ap (take m) is ∙ take-append_seam lists (last ∷ [])) in
         let end : f m ≡ last = sym (list_is m (omega arith)) ∙ (ap (λ (xs : List (List ℕ)). reads_at xs m) is ∙ get_or_push lists last [] m refl) in
         ap (λ (n : ℕ). from_each g 0 n) count
         ∙ (each_one_more g m
         ∙ (ap (λ (xs : List (List ℕ)). xs ++ g m ∷ []) (each_same g f 0 m (λ j h. more_list are j (omega arith)) ∙ front)
-        ∙ ap (λ (xs : List ℕ). lists ++ xs ∷ []) (more_last are m (sym count) ∙ ap (λ (xs : List ℕ). xs ++ x ∷ []) end)))
+        ∙ ap (λ (xs : List ℕ). lists ++ xs ∷ []) (more_last are m (sym count) ∙ ap (λ (xs : List ℕ). xs ++ new) end)))

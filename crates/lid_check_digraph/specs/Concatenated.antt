@@ -1,5 +1,5 @@
 -- Lists that stand one after another in one list, by where each starts.
-use Rattle.std.specs.Prelude.{ℕ, ◌+◌, ◌-◌, ◌<◌, ◌≤◌, List, length, take, drop, slice_index_or}
+use Rattle.std.specs.Prelude.{ℕ, ◌+◌, ◌<◌, ◌≤◌, List, length, slice_index_or, slice_range}
 use Rattle.lid_base.specs.Each.{from_each}
 
 -- where the list at a place ends: where the next one starts, and the last at the end of all
@@ -8,7 +8,7 @@ end_at all starts k = slice_index_or starts (k + 1) (length all)
 
 -- the list at a place
 abbrev pub list_at : List ℕ → List ℕ → ℕ → List ℕ
-list_at all starts k = take (end_at all starts k - slice_index_or starts k 0) (drop (slice_index_or starts k 0) all)
+list_at all starts k = slice_range all (slice_index_or starts k 0) (end_at all starts k)
 
 -- the lists in order
 abbrev pub lists_of : List ℕ → List ℕ → List (List ℕ)

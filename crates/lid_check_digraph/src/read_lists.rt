@@ -52,7 +52,7 @@ fn list_at<'l>(all: &'l [u32], starts: &[usize], k: usize) -> &'l [u32]
 }
 
 impl ReadLists {
-    /// No list yet, with room for the starts of so many.
+    /// No list yet. It asks for room for the starts of so many.
     ///
     /// # Errors
     /// Where there is no memory.
@@ -91,7 +91,7 @@ impl ReadLists {
         Ok(())
     }
 
-    /// Appends a number to the list that was begun last.
+    /// Appends a number to the list that was begun last. One is to be begun before.
     ///
     /// # Errors
     /// Where there is no memory.
@@ -110,9 +110,7 @@ impl ReadLists {
         ensures { OnOk result (self.new ≡ self.old ++ numbers.now ∷ []) }
     {
         self.begin()?;
-        for number in numbers {
-            self.add(*number)?;
-        }
+        self.all.extend_from_slice(numbers)?;
         Ok(())
     }
 }

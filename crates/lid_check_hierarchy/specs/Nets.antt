@@ -45,7 +45,7 @@ places_of_false k [] = []
 places_of_false k (true ∷ marks) = places_of_false (k + 1) marks
 places_of_false k (false ∷ marks) = k ∷ places_of_false (k + 1) marks
 
--- at each false of a list how many came before it, counted from k
+-- at each false of a list how many came before it, counted from k, and at each true nothing
 abbrev pub counts_of_false : ℕ → List Bool → List (Option ℕ)
 counts_of_false k [] = []
 counts_of_false k (true ∷ marks) = None ∷ counts_of_false k marks

@@ -46,7 +46,7 @@ pub fn build(alloc: Global, checked: &Checked) -> Result<System, NetFault>
 }
 
 /// The channels of the system of an accepted design, in the order in which `build` gives them, without
-/// its nodes: one for each 31 ports that a node reads of another, the last one shorter. No pearl is made.
+/// its nodes: one for each 31 ports that a node reads of another, the last of which may be shorter.
 ///
 /// # Errors
 /// Those of `build`.

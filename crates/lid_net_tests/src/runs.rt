@@ -7,7 +7,7 @@ ghost use Rattle.lid_system.specs.Systems.{IsWellFormed};
 
 use lid_base::Items;
 use lid_check::{Checked, check};
-use lid_net::build;
+use lid_net::{build, find_channels};
 use lid_pearl::Pearl;
 use lid_strict::strict;
 use lid_system::{Channel, InBit, Node, System, pack, unpack};
@@ -166,10 +166,31 @@ fn gives(alloc: Global, system: &System, rows: &[Items<bool>], outs: &[Items<boo
     rows.len() == outs.len()
 }
 
+/// Whether these channels are found of an accepted design without its system.
+fn finds(alloc: Global, checked: &Checked, wanted: &[Channel]) -> bool {
+    match find_channels(alloc, checked) {
+        Ok(channels) => channels.len() == wanted.len() && are_same(channels.as_slice(), wanted),
+        Err(_) => false,
+    }
+}
+
+/// Whether the channels of two lists are the same, as far as both go.
+fn are_same(channels: &[Channel], wanted: &[Channel]) -> bool {
+    channels.iter().zip(wanted).all(|(a, b)| {
+        a.from == b.from
+            && a.to == b.to
+            && a.piece == b.piece
+            && a.ports.as_slice() == b.ports.as_slice()
+    })
+}
+
 /// Whether the system of an accepted design gives some rows for others.
 fn builds(alloc: Global, checked: &Checked, rows: &Rows, outs: &Rows) -> bool {
     match build(alloc, checked) {
-        Ok(system) => gives(alloc, &system, rows.bits.as_slice(), outs.bits.as_slice()),
+        Ok(system) => {
+            finds(alloc, checked, system.channels.as_slice())
+                && gives(alloc, &system, rows.bits.as_slice(), outs.bits.as_slice())
+        }
         Err(_) => false,
     }
 }

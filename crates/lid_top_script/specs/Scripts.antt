@@ -175,7 +175,7 @@ pub record IsOverfull (d : Design) (line : List ℕ) : Type 0 where
   pub many : 16384 < length channels
   pub told : line ≡ net_line (TooManyChannels (length channels))
 
--- the system of an accepted design is built, which has these channels
+-- the channels of an accepted design are found, where they are not too many
 abbrev pub net_step : Design → (List Channel → Script) → Script
 net_step d next = decide (HasChannels d) (IsOverfull d) next
 
@@ -183,15 +183,15 @@ net_step d next = decide (HasChannels d) (IsOverfull d) next
 abbrev pub links : Design → List Channel → Links
 links d channels = record { nodes = length (pearls d) + 2; channels = channels }
 
--- the netlist is fetched, read and checked, and its system built
+-- the netlist is fetched, read and checked, and its channels are found
 abbrev pub system_step : List ℕ → Option (List ℕ) → (Design → Links → Script) → Script
 system_step net root next = read_step net net_limit net_reading (λ d. check_step root d (λ checked. net_step checked (λ channels. next checked (links checked channels))))
 
--- `check` of a design and its system: it is told
+-- `check` of a design and its channels: they are told
 unfoldable pub report_script : Design → Links → Script
 report_script d l = end (gives (report d l.channels))
 
--- `check`: the netlist is read and checked, and its system built
+-- `check`: the netlist is read and checked, and its channels are found
 unfoldable pub check_script : List ℕ → Option (List ℕ) → Script
 check_script net root = system_step net root report_script
 

@@ -8,4 +8,4 @@ returns c lists last is =
     let all = c.self.inside.all.items in
     let starts = c.self.inside.starts.items in
     ap (λ (xs : List ℕ). lists_of xs starts) c.in_ok-push.ensures.items
-    ∙ more all starts c.args.number c.self.invariant lists last (c.self.view_is ∙ is)
+    ∙ more all starts (c.args.number ∷ []) c.self.invariant lists last (c.self.view_is ∙ is)
