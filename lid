@@ -104,10 +104,10 @@ what_of() {
     rate) echo 'the throughput, with a certificate that anyone can check' ;;
     verify) echo 'whether a certificate shows the throughput' ;;
     slack) echo 'how many more relay stations each channel takes at this throughput' ;;
-    size) echo 'how large stations must be, so that they cost no throughput' ;;
+    size) echo 'how large stations must be, so that they cost no throughput that they need not' ;;
     wave) echo 'what the stations show, as waves (VCD)' ;;
     unwave) echo 'the trace that such a dump shows' ;;
-    walk) echo 'what each shell and relay station answers, step by step' ;;
+    walk) echo 'what the source, the shells, the movers and the sink answer, step by step' ;;
     free) echo 'the outputs of the wrapped design, by free-running threads' ;;
     emit) echo 'the wrapped design as a netlist' ;;
     gen) echo 'a netlist made from a seed, or what a run of it shows' ;;
