@@ -30,10 +30,10 @@ installed=${here%/*}/libexec/lid/lid
 # The mark of a check: `names` has what was looked at, each a name from crates/ and a NUL after it, and `stamps` the
 # second in which the kernel last changed each in any way (its ctime, which neither `cp -p`, `touch` nor `rsync -t` sets
 # back, as they do the time that `[ a -nt b ]` compares). It says: a check of all checksums of release/SUMS found all
-# right, and since then no listed file was changed, replaced or taken away, and none was added to a src/ or specs/, to
+# right, and since it began no listed file was changed, replaced or taken away, and none was added to a src/ or specs/, to
 # crates/ or release/. (One that was added to a proofs/ is seen by the next check: it changes no source and no program.)
 # Where a second or a name differs, or there is no mark of this user's, all is checked again; where that finds all right,
-# the mark is made anew, from times that were noted before it began and are older than two seconds.
+# the mark is made anew, from times that are two seconds and more before it began.
 memory=${XDG_CACHE_HOME:-${HOME:-/nonexistent}/.cache}/lid$here
 
 stamps() {
@@ -203,9 +203,14 @@ fail() {
 
 # --- which program ---------------------------------------------------------------------------------------------------
 
+# the names of release/SUMS, which stand after 64 digits and two blanks
+listed() {
+  cut -c67- release/SUMS
+}
+
 # the kind and the name of all that stands in the folders of the sources, of the crates that the program is built from
 in_sources() {
-  sed -n 's|^[0-9a-f]*  \(crates/[a-z0-9_]*\)/.*|\1|p' release/SUMS | uniq | while read -r crate; do
+  listed | grep '^crates/' | cut -d/ -f1,2 | uniq | while read -r crate; do
     for part in src specs proofs; do
       if [ -e "$crate/$part" ]; then printf '%s\0' "$crate/$part"; fi
     done
@@ -222,10 +227,11 @@ note() {
     (stamps "$memory/names.$$" > "$memory/stamps.$$")
 }
 
-# keeps it after a check that found all right, unless a file is so new that a further change could have the same time
+# keeps it after a check that began in this second and found all right, unless a file changed meanwhile, or is so new that
+# a further change could have the same time
 keep() {
   newest=$(sort -n "$memory/stamps.$$" | tail -n 1)
-  if [ -z "$1" ] && [ "$newest" -lt $(($(date +%s) - 2)) ]; then
+  if [ -z "$2" ] && [ "$newest" -lt $(($1 - 2)) ]; then
     mv "$memory/names.$$" "$memory/names" && mv "$memory/stamps.$$" "$memory/stamps"
   fi
   rm -f "$memory/names.$$" "$memory/stamps.$$"
@@ -248,29 +254,52 @@ fault() {
   fi
 }
 
+# the files whose checksum is another, each after `changed`, by four processes; ~ stands for release/SUMS
+changed() {
+  for part in 1 2 3 4; do
+    {
+      sums=$(sed -n "$part~4p" release/SUMS)
+      wrong=$(printf '%s\n' "$sums" | sha256sum --quiet --strict --check 2> /dev/null) || [ -z "$sums" ] ||
+        printf '%s\n' "${wrong:-~: FAILED}" | sed 's/^/changed /'
+    } &
+  done
+  wait
+}
+
+# the files that stand among the sources and that release/SUMS does not list, or the other way round, each after `new`
+added() {
+  { listed | grep '^crates/' | sed 's/^/f /'; in_sources | tr '\0\n' '\n?'; } | grep -v '^d ' | sort | uniq -u | sed 's/^./new/'
+}
+
 fault_of_sums() {
-  wrong=$(LC_ALL=C sha256sum --quiet --strict --check release/SUMS 2> /dev/null || echo 'release/SUMS: FAILED')
-  wrong=$(printf '%s\n' "$wrong" | head -n 1)
-  added=$({ sed -n 's|^[0-9a-f]*  crates/|f crates/|p' release/SUMS; in_sources | tr '\0\n' '\n?'; } |
-    grep -v '^d ' | sort | uniq -u | head -n 1)
-  case $wrong in
-    release/lid:*) echo 'release/lid is damaged: its checksum is another; git checkout -- release/lid brings it back' ;;
-    ?*) echo "${wrong%: FAILED*} is not as it was when release/lid was built; git checkout brings it back" ;;
+  found=$({ changed & added & wait; } | sort | head -n 1)
+  case $found in
+    'changed release/lid:'*) echo 'release/lid is damaged: its checksum is another; git checkout -- release/lid brings it back' ;;
+    'changed ~:'*) echo 'release/SUMS is not as it was when release/lid was built; git checkout brings it back' ;;
+    changed*)
+      found=${found#* }
+      echo "${found%: FAILED*} is not as it was when release/lid was built; git checkout brings it back"
+      ;;
+    new*) echo "${found#* } was added since release/lid was built; take it away" ;;
     *)
-      if [ -n "$added" ]; then
-        echo "${added#* } was added since release/lid was built; take it away"
-      elif said=$(release/lid 2>&1 < /dev/null) || [ "$said" != 'lid: usage' ]; then
+      if said=$(release/lid 2>&1 < /dev/null) || [ "$said" != 'lid: usage' ]; then
         echo "release/lid does not run on this machine (it wants x86-64 and GLIBC 2.34): $said"
       fi
       ;;
   esac
 }
 
+# what stands there is noted beside the check: what changes after it began is too new to be kept
 is_released() {
   if [ -n "$program" ]; then return; fi
-  (cd "$here" && note) 2> /dev/null || rm -f "$memory/stamps.$$"
-  reason=$(cd "$here" && fault)
-  (keep "$reason") 2> /dev/null
+  began=$(date +%s)
+  reason=$(
+    cd "$here" && export LC_ALL=C || exit
+    { note || rm -f "$memory/stamps.$$"; } > /dev/null 2>&1 &
+    fault
+    wait
+  )
+  (keep "$began" "$reason") 2> /dev/null
   [ -z "$reason" ]
 }
 

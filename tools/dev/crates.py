@@ -23,10 +23,11 @@ HEAD = """# The crates
 
 Written by `tools/dev/crates.py` from the first lines of each crate's root file; the gate refuses a page that differs.
 
-A crate that has no other's name before its own is a **door**: its public calls are those that [the top call](PROVED.md)
-and the other parts of the house use. Crates whose names begin with that of a door are its rooms: `.._text` is how a thing
-is written and read, `.._laws` are theorems without code, `.._guess` is what is tested by whoever takes it, and `.._tests`
-are tests. The number is that of the crates that stand on it, directly or not: so many are proved again where it changes.
+A crate whose name is not another's with `_` and more after it (that of the program, `lid`, does not count) is a **door**:
+its public calls are those that [the top call](PROVED.md) and the other parts of the house use. Crates whose names are that
+of a door with `_` and more after it are its rooms: `.._text` is how a thing is written and read, `.._laws` are theorems
+without code, `.._guess` is what is tested by whoever takes it, and `.._tests` are tests. The number is that of the crates
+that stand on it, directly or not: so many are proved again where it changes.
 """
 
 
