@@ -294,7 +294,8 @@ is_released() {
   if [ -n "$program" ]; then return; fi
   began=$(date +%s)
   reason=$(
-    cd "$here" && export LC_ALL=C || exit
+    cd "$here" || { echo "the folder $here cannot be entered"; exit; }
+    export LC_ALL=C
     { note || rm -f "$memory/stamps.$$"; } > /dev/null 2>&1 &
     fault
     wait
