@@ -6,7 +6,8 @@
 
 The command runs as it would alone, and what it prints goes where it would; the table comes after it,
 on standard error, and the status is that of the command. Figures come from looking at the processes
-of the prover five times a second, so each process loses up to a fifth of a second; `all` is exact.
+of the prover once a second, which takes a hundredth of a processor, so each process loses up to a second;
+`all` is exact.
 A crate is over its budget where a figure is marked: 120 s for its proof, 60 for its tests, 150 for
 its edits, of which one is a further proof of the crate.
 """
@@ -109,7 +110,7 @@ def main(words):
     run = subprocess.Popen(words)
     while run.poll() is None:
         look(run.pid, kinds, spent)
-        time.sleep(0.2)
+        time.sleep(1)
     used = resource.getrusage(resource.RUSAGE_CHILDREN)
     lines = told(kinds, spent)
     whole = used.ru_utime + used.ru_stime

@@ -9,11 +9,11 @@ brackets; `--program LID` is measured in place of the program of this tree. With
 designs alone are taken whose names have it.
 
 A time is the processor's (user and system) of a whole program, the least of three (of one where it took more than ten
-seconds), and memory is its peak. ~ says that a run took more than two minutes. Beside `check` and `strict` stand ABC
+seconds), and memory is its peak. ~ says that a run took more than a minute. Beside `check` and `strict` stand ABC
 (reading the flattened netlist; 32 random runs of as many rows at once), Icarus Verilog and Verilator (the same netlist,
 as Yosys writes it, and the same rows, of which they must tell what `strict` tells), beside `clock` both run the emitted netlist over as many cycles, and beside `rate`
 HowardMmc of LEMON finds one ratio of the same marked graph. Their compilations are rows of their own. A cell is empty
-where a tool is not there, takes more than five minutes, or where nothing is to be run.
+where a tool is not there, takes more than two minutes to compile, or where nothing is to be run.
 """
 
 import os
@@ -35,7 +35,7 @@ from rates import marking
 from verilog import listed
 
 EXAMPLES = Path(__file__).resolve().parents[2] / "examples"
-LIMIT, BUILD_LIMIT = 120, 300
+LIMIT, BUILD_LIMIT = 60, 120
 TIME = shutil.which("time")
 LEMON = r"""
 #include <lemon/howard_mmc.h>
@@ -67,38 +67,31 @@ class Took(NamedTuple):
 ENDED = Took(float("inf"), float("inf"))
 
 
-def once(words: list, given: Path | None, out: Path | None, limit: int) -> Took:
-    with open(given or os.devnull) as read, open(out or os.devnull, "w") as told:
-        ran = subprocess.Popen(list(map(str, words)), stdin=read, stdout=told, stderr=subprocess.DEVNULL, start_new_session=True)
+def once(words: list, given: Path | None = None, out: Path | None = None, limit: int = LIMIT, weighed: bool = False) -> Took:
+    """A run; what it held is told by GNU time, since what waits for a process counts what itself held when it began that."""
+    with open(given or os.devnull) as read, open(out or os.devnull, "w") as told, tempfile.NamedTemporaryFile("r") as weight:
+        before = [TIME, "-q", "-f", "%M", "-o", weight.name] if weighed and TIME else []
+        ran = subprocess.Popen([*before, *map(str, words)], stdin=read, stdout=told, stderr=subprocess.DEVNULL, start_new_session=True)
         late = threading.Timer(limit, os.killpg, (ran.pid, signal.SIGKILL))
         late.start()
         _, status, used = os.wait4(ran.pid, 0)
         late.cancel()
         ran.returncode = os.waitstatus_to_exitcode(status)
-    if ran.returncode == -signal.SIGKILL:
-        return ENDED
-    if ran.returncode:
-        raise subprocess.CalledProcessError(ran.returncode, words)
-    return Took(used.ru_utime + used.ru_stime, 0.0)
+        if ran.returncode == -signal.SIGKILL:
+            return ENDED
+        if ran.returncode:
+            raise subprocess.CalledProcessError(ran.returncode, words)
+        return Took(used.ru_utime + used.ru_stime, int(weight.read() or 0) / 1024 if before else 0.0)
 
 
-def peak(words: list, given: Path | None) -> float:
-    """In megabytes, by GNU time, since what waits for a process counts what it held before the program began."""
-    if not TIME:
-        return 0.0
-    with open(given or os.devnull) as read, tempfile.NamedTemporaryFile("r") as told:
-        subprocess.run([TIME, "-f", "%M", "-o", told.name, *map(str, words)], stdin=read, stdout=subprocess.DEVNULL, stderr=subprocess.DEVNULL, check=True)
-        return int(told.read()) / 1024
-
-
-def least(runs: list[list], given: Path | None = None, out: Path | None = None, limit: int = LIMIT) -> list[Took]:
+def least(runs: list[list], given: Path | None = None, out: Path | None = None) -> list[Took]:
     """What some runs take, which go in turns."""
-    found: list[Took] = [ENDED] * len(runs)
-    for turn in range(3):
+    found = [once(words, given, out, weighed=True) for words in runs]
+    for _ in range(2):
         for k, words in enumerate(runs):
-            if turn == 0 or found[k].seconds < 10:
-                found[k] = min(found[k], once(words, given, out, limit))
-    return [took if took == ENDED else Took(took.seconds, peak(words, given)) for took, words in zip(found, runs)]
+            if found[k].seconds < 10:
+                found[k] = Took(min(found[k].seconds, once(words, given, out).seconds), found[k].megabytes)
+    return found
 
 
 def random_netlist(cells: int, dice: random.Random) -> str:
@@ -244,7 +237,7 @@ class Peer:
         if not shutil.which(words[0]) or not (self.folder / "peer.v").is_file():
             return None, None
         try:
-            built, told = once(words, None, None, BUILD_LIMIT), self.folder / "peer_told"
+            built, told = once(words, limit=BUILD_LIMIT), self.folder / "peer_told"
             ran = ENDED if built == ENDED else least([run], out=told)[0]
         except subprocess.CalledProcessError:
             return None, None
