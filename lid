@@ -30,18 +30,21 @@ installed=${here%/*}/libexec/lid/lid
 # The mark of a check: `names` has what was looked at, each a name from crates/ and a NUL after it, and `stamps` the
 # second in which the kernel last changed each in any way (its ctime, which neither `cp -p`, `touch` nor `rsync -t` sets
 # back, as they do the time that `[ a -nt b ]` compares). It says: a check of all checksums of release/SUMS found all
-# right, and since it began no listed file was changed, replaced or taken away, and none was added to a src/ or specs/, to
+# right, and since then no listed file was changed, replaced or taken away, and none was added to a src/ or specs/, to
 # crates/ or release/. (One that was added to a proofs/ is seen by the next check: it changes no source and no program.)
 # Where a second or a name differs, or there is no mark of this user's, all is checked again; where that finds all right,
-# the mark is made anew, from times that are two seconds and more before it began.
-memory=${XDG_CACHE_HOME:-${HOME:-/nonexistent}/.cache}/lid$here
+# the mark is made anew, from times that were noted before it began and are two seconds and more older.
+case ${XDG_CACHE_HOME-} in
+  /*) memory=$XDG_CACHE_HOME/lid$here ;;
+  *) memory=${HOME:-/dev/null}/.cache/lid$here ;;
+esac
 
 stamps() {
   cd "$here/crates" && LC_ALL=C exec xargs -0 -s 1900000 -a "$1" stat -c %Z
 }
 
 is_remembered() {
-  [ -O "$memory/stamps" ] && stamps "$memory/names" 2> /dev/null | LC_ALL=C cmp -s - "$memory/stamps"
+  [ -O "$memory/stamps" ] && [ -s "$memory/stamps" ] && stamps "$memory/names" 2> /dev/null | LC_ALL=C cmp -s - "$memory/stamps"
 }
 
 program=''
@@ -189,7 +192,7 @@ version() {
   about=$here/release
   [ -e "$here/crates.txt" ] || about=$shared
   if [ "$about" != "$shared" ] && ! is_released; then
-    echo "lid 1.0, of a tree that is no release: $reason"
+    printf '%s\n' "lid 1.0, of a tree that is no release: $reason" | tr -c '[:print:]\n' '?'
   else
     echo "lid 1.0, $(cat "$about/VERSION")"
     echo "toolchain $(cat "$about/TOOLCHAIN")"
@@ -219,29 +222,27 @@ in_sources() {
 
 # notes what stands there before a check, in files of this process
 note() {
-  mkdir -p "$memory" && [ -O "$memory" ] &&
-    {
-      in_sources | sed -z -e '\|^d [^/]*/[^/]*/proofs|d' -e 's|^. crates/||' &&
-        printf '%s\0' ../crates.txt . ../release ../release/SUMS ../release/lid
-    } > "$memory/names.$$" &&
+  mkdir -p "$memory" && [ -O "$memory" ] && in_sources > "$memory/list.$$" &&
+    sed -z -e '\|^d [^/]*/[^/]*/proofs|d' -e 's|^. crates/||' "$memory/list.$$" > "$memory/names.$$" &&
+    printf '%s\0' ../crates.txt . ../release ../release/SUMS ../release/lid >> "$memory/names.$$" &&
     (stamps "$memory/names.$$" > "$memory/stamps.$$")
 }
 
-# keeps it after a check that began in this second and found all right, unless a file changed meanwhile, or is so new that
-# a further change could have the same time
+# keeps it after a check that began in this second and found all right, unless a file is so new that a further change could
+# have the same time
 keep() {
   newest=$(sort -n "$memory/stamps.$$" | tail -n 1)
-  if [ -z "$2" ] && [ "$newest" -lt $(($1 - 2)) ]; then
+  if [ "$2" = right ] && [ "$newest" -lt $(($1 - 2)) ]; then
     mv "$memory/names.$$" "$memory/names" && mv "$memory/stamps.$$" "$memory/stamps"
   fi
-  rm -f "$memory/names.$$" "$memory/stamps.$$"
+  rm -f "$memory/list.$$" "$memory/names.$$" "$memory/stamps.$$"
 }
 
-# why the program under release/ is not that of this tree; nothing where it is
+# why the program under release/ is not that of this tree, or `right`; nothing where a process of the check failed
 fault() {
   if [ "$(uname -sm)" != 'Linux x86_64' ]; then
     echo "the program is for x86-64 Linux, and this is $(uname -sm)"
-  elif ! { [ -f release/SUMS ] && [ -f release/lid ]; }; then
+  elif ! { [ -r release/SUMS ] && [ -f release/lid ]; }; then
     echo 'release/lid or release/SUMS is not here; git checkout -- release brings them back'
   elif ! [ -x release/lid ]; then
     echo 'release/lid may not be run; chmod +x release/lid'
@@ -249,59 +250,73 @@ fault() {
     echo "there is no sha256sum in $PATH, which tells whether release/lid is of these sources; install coreutils"
   elif ! grep -q '^[0-9a-f]*  release/lid$' release/SUMS; then
     echo 'release/SUMS does not list release/lid, so nothing tells whether it is whole; take a newer release'
+  elif ! grep -q '^[0-9a-f]*  crates.txt$' release/SUMS; then
+    echo 'release/SUMS does not list crates.txt, so it is not whole; git checkout -- release brings it back'
   else
     fault_of_sums
   fi
 }
 
-# the files whose checksum is another, each after `changed`, by four processes; ~ stands for release/SUMS
+# the files whose checksum is another, each after `changed`, by four processes, of which each says that it ended; ~ stands
+# for release/SUMS
 changed() {
   for part in 1 2 3 4; do
     {
-      sums=$(sed -n "$part~4p" release/SUMS)
-      wrong=$(printf '%s\n' "$sums" | sha256sum --quiet --strict --check 2> /dev/null) || [ -z "$sums" ] ||
+      sums=$(sed -n "$part~4p" release/SUMS) && [ -n "$sums" ] || exit
+      if wrong=$(printf '%s\n' "$sums" | sha256sum --quiet --strict --check 2> /dev/null); then
+        echo right
+      else
         printf '%s\n' "${wrong:-~: FAILED}" | sed 's/^/changed /'
+      fi
     } &
   done
   wait
 }
 
-# the files that stand among the sources and that release/SUMS does not list, or the other way round, each after `new`
+# the files that stand among the sources and that release/SUMS does not list, or the other way round, each after `new`, and
+# ~ that shows that all were compared
 added() {
-  { listed | grep '^crates/' | sed 's/^/f /'; in_sources | tr '\0\n' '\n?'; } | grep -v '^d ' | sort | uniq -u | sed 's/^./new/'
+  {
+    listed | grep '^crates/' | sed 's/^/f /' | tr '\n' '\0'
+    if [ -f "$memory/list.$$" ]; then cat "$memory/list.$$"; else in_sources; fi && printf 'f ~\0'
+  } | sed -z '/^d /d' | sort -z | uniq -zu | tr '\0\n' '\n?' | sed 's/^./new/'
 }
 
+ALL_RIGHT='new ~
+right
+right
+right
+right'
+
 fault_of_sums() {
-  found=$({ changed & added & wait; } | sort | head -n 1)
+  found=$({ changed & added & wait; } | sort)
   case $found in
+    "$ALL_RIGHT")
+      if said=$(release/lid 2>&1 < /dev/null) || [ "$said" != 'lid: usage' ]; then
+        echo "release/lid does not run on this machine (it wants x86-64 and GLIBC 2.34): $said"
+      else
+        echo right
+      fi
+      ;;
     'changed release/lid:'*) echo 'release/lid is damaged: its checksum is another; git checkout -- release/lid brings it back' ;;
     'changed ~:'*) echo 'release/SUMS is not as it was when release/lid was built; git checkout brings it back' ;;
     changed*)
       found=${found#* }
-      echo "${found%: FAILED*} is not as it was when release/lid was built; git checkout brings it back"
+      printf '%s\n' "${found%%: FAILED*} is not as it was when release/lid was built; git checkout brings it back"
       ;;
-    new*) echo "${found#* } was added since release/lid was built; take it away" ;;
-    *)
-      if said=$(release/lid 2>&1 < /dev/null) || [ "$said" != 'lid: usage' ]; then
-        echo "release/lid does not run on this machine (it wants x86-64 and GLIBC 2.34): $said"
-      fi
-      ;;
+    'new ~'* | right*) ;;
+    new*) printf '%s\n' "$found" | sed -n '1s/^new \(.*\)/\1 was added since release\/lid was built, or its line in release\/SUMS is gone; git status tells/p' ;;
   esac
 }
 
-# what stands there is noted beside the check: what changes after it began is too new to be kept
 is_released() {
   if [ -n "$program" ]; then return; fi
   began=$(date +%s)
-  reason=$(
-    cd "$here" || { echo "the folder $here cannot be entered"; exit; }
-    export LC_ALL=C
-    { note || rm -f "$memory/stamps.$$"; } > /dev/null 2>&1 &
-    fault
-    wait
-  )
+  (cd "$here" && LC_ALL=C && export LC_ALL && note) 2> /dev/null || rm -f "$memory/list.$$" "$memory/stamps.$$"
+  reason=$(cd "$here" && LC_ALL=C && export LC_ALL && fault)
+  reason=${reason:-the check of release/SUMS did not come to its end; processes or memory may be few, so try again}
   (keep "$began" "$reason") 2> /dev/null
-  [ -z "$reason" ]
+  [ "$reason" = right ]
 }
 
 # whether a program that was built here is older than a source
@@ -316,7 +331,7 @@ build() {
   PATH=$callers_path command -v rt > /dev/null ||
     fail "$reason (or build a program of these sources: that wants the toolchain, rt, which is not here)" 70
   log=$(mktemp "${TMPDIR:-/tmp}/lid-build.XXXXXX") || exit 70
-  echo "./lid: $reason" >&2
+  printf './lid: %s\n' "$reason" | tr -c '[:print:]\n' '?' >&2
   echo "./lid: proving all crates, then building the program; that takes tens of minutes. The toolchain's words: $log" >&2
   # rt runs what it has built, here on the example of the crate
   (PATH=$callers_path && cd "$here/crates/lid" && rt run -- strict data/one.blif data/one.vec) 2>&1 | tee "$log" |

@@ -25,6 +25,11 @@ def nothing(doc: str | None):
     parser_of(doc).parse_args()
 
 
+def absolute(name: str) -> Path:
+    """A program that is given by its path, which is never looked up among the commands."""
+    return Path(name).absolute()
+
+
 def need(*commands: str):
     """Ends the tool where one of these commands is not there."""
     for command in commands:

@@ -20,7 +20,7 @@ import tempfile
 from collections import Counter
 from pathlib import Path
 
-from arguments import parser_of
+from arguments import absolute, parser_of
 from compare import rows_text, text_of
 from gen import Draws
 from generated import design
@@ -76,7 +76,7 @@ def fault(ours: Path, other: Path, net: Path, stations: Path, relays: list[int],
     ):
         told = ran(ours, word, *more)
         came[f"{word}, status {told[0]}"] += 1
-        if told != ran(other, word, *more):
+        if not told.startswith("0\n") or told != ran(other, word, *more):
             return " ".join(map(str, [word, *more]))
     certs = [ran(lid, "rate", *words).removeprefix("0\n") for lid in (ours, other)]
     if promised(certs[0]) != promised(certs[1]):
@@ -101,8 +101,8 @@ def write_run(net: Path, text: str, actors: int, dice: random.Random):
 
 def main():
     parser = parser_of(__doc__)
-    parser.add_argument("--program", type=Path)
-    for name, kind in (("SEED", int), ("COUNT", int), ("OTHER", Path)):
+    parser.add_argument("--program", type=absolute)
+    for name, kind in (("SEED", int), ("COUNT", int), ("OTHER", absolute)):
         parser.add_argument(name, type=kind)
     given = parser.parse_args()
     dice, came, ours = random.Random(given.SEED), Counter(), given.program or program()

@@ -9,11 +9,11 @@ brackets; `--program LID` is measured in place of the program of this tree. With
 designs alone are taken whose names have it.
 
 A time is the processor's (user and system) of a whole program, the least of three (of one where it took more than ten
-seconds), and memory is its peak. ~ says that a run took more than a minute. Beside `check` and `strict` stand ABC
+seconds), and memory is its peak. ~ says that a run took more than a minute, or a compilation more than two. Beside `check` and `strict` stand ABC
 (reading the flattened netlist; 32 random runs of as many rows at once), Icarus Verilog and Verilator (the same netlist,
-as Yosys writes it, and the same rows, of which they must tell what `strict` tells), beside `clock` both run the emitted netlist over as many cycles, and beside `rate`
-HowardMmc of LEMON finds one ratio of the same marked graph. Their compilations are rows of their own. A cell is empty
-where a tool is not there, takes more than two minutes to compile, or where nothing is to be run.
+as Yosys writes it, and the same rows, of which they must tell what `strict` tells), beside `clock` both run the emitted
+netlist over as many cycles, and beside `rate` HowardMmc of LEMON finds one ratio of the same marked graph. Compilations
+are rows of their own. A cell is empty where a tool is not there or fails, or where nothing is to be run.
 """
 
 import os
@@ -28,7 +28,7 @@ import threading
 from pathlib import Path
 from typing import Callable, NamedTuple
 
-from arguments import parser_of
+from arguments import absolute, parser_of
 from emits_others import clocked
 from program import program
 from rates import marking
@@ -67,30 +67,35 @@ class Took(NamedTuple):
 ENDED = Took(float("inf"), float("inf"))
 
 
-def once(words: list, given: Path | None = None, out: Path | None = None, limit: int = LIMIT, weighed: bool = False) -> Took:
-    """A run; what it held is told by GNU time, since what waits for a process counts what itself held when it began that."""
+def once(words: list, given: Path | None = None, out: Path | None = None, limit: int = LIMIT, weighed: bool = False) -> Took | None:
+    """A run, or nothing where it is refused; what it held is told by GNU time, since what waits for a process counts what
+    itself held when it began that."""
     with open(given or os.devnull) as read, open(out or os.devnull, "w") as told, tempfile.NamedTemporaryFile("r") as weight:
         before = [TIME, "-q", "-f", "%M", "-o", weight.name] if weighed and TIME else []
         ran = subprocess.Popen([*before, *map(str, words)], stdin=read, stdout=told, stderr=subprocess.DEVNULL, start_new_session=True)
-        late = threading.Timer(limit, os.killpg, (ran.pid, signal.SIGKILL))
+        ended = threading.Event()
+        late = threading.Timer(limit, lambda: (ended.set(), os.killpg(ran.pid, signal.SIGKILL)))
         late.start()
         _, status, used = os.wait4(ran.pid, 0)
         late.cancel()
         ran.returncode = os.waitstatus_to_exitcode(status)
-        if ran.returncode == -signal.SIGKILL:
+        if ended.is_set():
             return ENDED
-        if ran.returncode:
-            raise subprocess.CalledProcessError(ran.returncode, words)
-        return Took(used.ru_utime + used.ru_stime, int(weight.read() or 0) / 1024 if before else 0.0)
+        if ran.returncode < 0 or ran.returncode > 128:
+            sys.exit(f"speed.py: {words} ended with {ran.returncode}")
+        return Took(used.ru_utime + used.ru_stime, int(weight.read() or 0) / 1024 if before else 0.0) if ran.returncode == 0 else None
 
 
-def least(runs: list[list], given: Path | None = None, out: Path | None = None) -> list[Took]:
-    """What some runs take, which go in turns."""
-    found = [once(words, given, out, weighed=True) for words in runs]
+def least(runs: list[list], given: Path | None = None, out: Path | None = None) -> list[Took | None]:
+    """What some runs take, which go in turns; the first one's output stays."""
+    outs = [out if k == 0 or out is None else out.with_name(f"{out.name}.{k}") for k in range(len(runs))]
+    found = [once(words, given, to, weighed=True) for words, to in zip(runs, outs)]
     for _ in range(2):
         for k, words in enumerate(runs):
-            if found[k].seconds < 10:
-                found[k] = Took(min(found[k].seconds, once(words, given, out).seconds), found[k].megabytes)
+            now = found[k]
+            if now and now.seconds < 10:
+                again = once(words, given, outs[k])
+                found[k] = Took(min(now.seconds, again.seconds), now.megabytes) if again else None
     return found
 
 
@@ -180,13 +185,10 @@ class Bench:
         (self.folder / name).write_text(text)
         return self.folder / name
 
-    def lid(self, line: str, out: str | None = None) -> list[Took] | None:
-        """What a command takes by each program; nothing where it is refused."""
+    def lid(self, line: str, out: str | None = None) -> list[Took | None]:
+        """What a command takes by each program, nothing where it is refused; the output of the first is kept."""
         words = [str(self.net) if w == "NET" else str(self.folder / w[1:]) if w.startswith("@") else w for w in line.split()]
-        try:
-            return least([[p, *words] for p in self.programs], out=self.folder / out if out else None)
-        except subprocess.CalledProcessError:
-            return None
+        return least([[p, *words] for p in self.programs], out=self.folder / out if out else None)
 
     def emitted(self) -> tuple[str, list[str], list[str]] | None:
         """The emitted netlist, its inputs, and rows that offer a row and take one in each cycle of the clocked run."""
@@ -206,6 +208,8 @@ class Peer:
         clocks = {w for line in text.splitlines() if line.startswith(".latch") for w in line.split()[4:5]}
         flat = ".subckt" not in text
         self.net, self.flat = folder / "peer.blif", folder / "peer_flat.blif"
+        for old in (self.flat, folder / "peer.v"):
+            old.unlink(missing_ok=True)
         self.net.write_text(text if clocks else clocked(text))
         (folder / "peer.bits").write_text("\n".join(row[::-1] or "0" for row in rows) + "\n")
         clock, outputs = next(iter(clocks), "clk"), listed(text, ".outputs")
@@ -236,13 +240,12 @@ class Peer:
         """What a compilation and the run of what it made take. Its rows must be those of `strict`."""
         if not shutil.which(words[0]) or not (self.folder / "peer.v").is_file():
             return None, None
-        try:
-            built, told = once(words, limit=BUILD_LIMIT), self.folder / "peer_told"
-            ran = ENDED if built == ENDED else least([run], out=told)[0]
-        except subprocess.CalledProcessError:
-            return None, None
-        if ran == ENDED:
-            return None, None
+        built, told = once(words, limit=BUILD_LIMIT), self.folder / "peer_told"
+        if not built or built == ENDED:
+            return built, None
+        ran = least([run], out=told)[0]
+        if not ran or ran == ENDED:
+            return built, ran
         rows = [line[::-1] for line in told.read_text().splitlines() if re.fullmatch("[01xz]+", line)]
         if rows != self.wanted:
             sys.exit(f"speed.py: {words[0]} gives other rows of {self.net.name} than strict")
@@ -261,10 +264,10 @@ class Peer:
     def abc(self, script: str) -> Took | None:
         if not shutil.which("yosys-abc") or not self.flat.is_file():
             return None
-        try:
-            return least([["yosys-abc", "-q", f"read_blif {self.flat}{script}"]])[0]
-        except subprocess.CalledProcessError:
-            return None
+        told = self.folder / "abc_told"
+        took = least([["yosys-abc", "-q", f"read_blif {self.flat}{script}; echo whole"]], out=told)[0]
+        # its status is 0 where a command fails too; what follows that is not run
+        return took if took == ENDED or "whole" in told.read_text().split() else None
 
 
 def lemon_program(folder: str | Path) -> Path | None:
@@ -360,7 +363,7 @@ LATCHES = [Measured(f"{n:,} latches", lambda _, n=n: latches(n), 1000, few, EACH
 
 def cell(tooks: list[Took | None] | None) -> str:
     """Seconds and megabytes, of the program before in brackets."""
-    if not tooks or tooks[0] is None:
+    if not tooks or not any(tooks):
         return ""
     seconds = [("~" if t == ENDED else f"{t.seconds:.3f}" if t.seconds < 1 else f"{t.seconds:.1f}") if t else "" for t in tooks]
     memory = ["" if t is None or t == ENDED or not t.megabytes else f"{t.megabytes:.0f}" for t in tooks]
@@ -380,6 +383,8 @@ def measured(these: list[Measured], programs: list[Path], peers: bool) -> dict[s
 
 
 def table(told: dict[str, Rows], head: str):
+    if not told:
+        return
     print(f"| {head} | " + " | ".join(told) + " |\n|---|" + "---|" * len(told))
     for word in dict.fromkeys(word for rows in told.values() for word in rows):
         cells = [cell(rows.get(word)) for rows in told.values()]
@@ -392,15 +397,19 @@ def main():
     parser = parser_of(__doc__)
     parser.add_argument("WHAT", choices=["each", "growth"])
     parser.add_argument("WORD", nargs="?", default="")
-    parser.add_argument("--program", type=Path)
-    parser.add_argument("--before", type=Path)
+    parser.add_argument("--program", type=absolute)
+    parser.add_argument("--before", type=absolute)
     given = parser.parse_args()
     programs = [given.program or program(), *([given.before] if given.before else [])]
     if given.WHAT == "each":
-        table(measured([d for d in EACH if given.WORD in d.name], programs, True), "Seconds, peak of memory")
-        return
-    for family in (SHELLS, CELLS, PEARLS, LATCHES):
-        table(measured([d for d in family if given.WORD in d.name], programs, False), "Seconds, peak of memory")
+        families = [EACH]
+    else:
+        families = [SHELLS, CELLS, PEARLS, LATCHES]
+    chosen = [[design for design in family if given.WORD in design.name] for family in families]
+    if not any(chosen):
+        sys.exit(f"speed.py: no design has {given.WORD} in its name")
+    for family in chosen:
+        table(measured(family, programs, given.WHAT == "each"), "Seconds, peak of memory")
 
 
 if __name__ == "__main__":
