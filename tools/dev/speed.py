@@ -5,15 +5,16 @@
     tools/dev/speed.py growth    each command on designs of which each is twice the one before
 
 With `--before LID` another build of the program, as an earlier release, is run in turns with this one, and stands in
-brackets; `--program LID` is measured in place of the program of this tree. With WORD those
-designs alone are taken whose names have it.
+brackets; `--program LID` is measured in place of the program of this tree. With WORD those designs alone are taken whose
+names have it.
 
 A time is the processor's (user and system) of a whole program, the least of three (of one where it took more than ten
-seconds), and memory is its peak. ~ says that a run took more than a minute, or a compilation more than two. Beside `check` and `strict` stand ABC
-(reading the flattened netlist; 32 random runs of as many rows at once), Icarus Verilog and Verilator (the same netlist,
-as Yosys writes it, and the same rows, of which they must tell what `strict` tells), beside `clock` both run the emitted
-netlist over as many cycles, and beside `rate` HowardMmc of LEMON finds one ratio of the same marked graph. Compilations
-are rows of their own. A cell is empty where a tool is not there or fails, or where nothing is to be run.
+seconds), and memory is its peak. ~ says that a run took more than a minute, or a compilation more than two. Beside
+`check` and `strict` stand ABC (reading the flattened netlist; 32 random runs of as many rows at once), Icarus Verilog and
+Verilator (the same netlist, as Yosys writes it, and the same rows, of which they must tell what `strict` tells), beside
+`clock` both run the emitted netlist over as many cycles, and beside `rate` HowardMmc of LEMON finds one ratio of the same
+marked graph. Compilations are rows of their own. A cell is empty where a tool is not there or fails, or where nothing is
+to be run.
 """
 
 import os
