@@ -211,10 +211,10 @@ listed() {
   cut -c67- release/SUMS
 }
 
-# the kind and the name of all that stands in the folders of the sources, of the crates that the program is built from
-in_sources() {
+# the kind and the name of all that stands in these folders (src, specs, proofs) of the crates that the program is built from
+in_folders() {
   listed | grep '^crates/' | cut -d/ -f1,2 | uniq | while read -r crate; do
-    for part in src specs proofs; do
+    for part; do
       if [ -e "$crate/$part" ]; then printf '%s\0' "$crate/$part"; fi
     done
   done | xargs -0 sh -c 'find "$@" -printf "%y %p\0"' sh
@@ -222,8 +222,8 @@ in_sources() {
 
 # notes what stands there before a check, in files of this process
 note() {
-  mkdir -p "$memory" && [ -O "$memory" ] && in_sources > "$memory/list.$$" &&
-    sed -z -e '\|^d [^/]*/[^/]*/proofs|d' -e 's|^. crates/||' "$memory/list.$$" > "$memory/names.$$" &&
+  mkdir -p "$memory" && [ -O "$memory" ] && in_folders src specs > "$memory/list.$$" &&
+    sed -z 's|^. crates/||' "$memory/list.$$" > "$memory/names.$$" &&
     printf '%s\0' ../crates.txt . ../release ../release/SUMS ../release/lid >> "$memory/names.$$" &&
     (stamps "$memory/names.$$" > "$memory/stamps.$$")
 }
@@ -278,7 +278,7 @@ changed() {
 added() {
   {
     listed | grep '^crates/' | sed 's/^/f /' | tr '\n' '\0'
-    if [ -f "$memory/list.$$" ]; then cat "$memory/list.$$"; else in_sources; fi && printf 'f ~\0'
+    if [ -f "$memory/list.$$" ]; then cat "$memory/list.$$"; else in_folders src specs; fi && in_folders proofs && printf 'f ~\0'
   } | sed -z '/^d /d' | sort -z | uniq -zu | tr '\0\n' '\n?' | sed 's/^./new/'
 }
 
