@@ -278,7 +278,7 @@ changed() {
 added() {
   {
     listed | grep '^crates/' | sed 's/^/f /' | tr '\n' '\0'
-    if [ -f "$memory/list.$$" ]; then cat "$memory/list.$$"; else in_folders src specs; fi && in_folders proofs && printf 'f ~\0'
+    if [ -n "$noted" ]; then cat "$memory/list.$$"; else in_folders src specs; fi && in_folders proofs && printf 'f ~\0'
   } | sed -z '/^d /d' | sort -z | uniq -zu | tr '\0\n' '\n?' | sed 's/^./new/'
 }
 
@@ -312,7 +312,12 @@ fault_of_sums() {
 is_released() {
   if [ -n "$program" ]; then return; fi
   began=$(date +%s)
-  (cd "$here" && LC_ALL=C && export LC_ALL && note) 2> /dev/null || rm -f "$memory/list.$$" "$memory/stamps.$$"
+  if (cd "$here" && LC_ALL=C && export LC_ALL && note) 2> /dev/null; then
+    noted=yes
+  else
+    noted=''
+    rm -f "$memory/list.$$" "$memory/stamps.$$" 2> /dev/null
+  fi
   reason=$(cd "$here" && LC_ALL=C && export LC_ALL && fault)
   reason=${reason:-the check of release/SUMS did not come to its end; processes or memory may be few, so try again}
   (keep "$began" "$reason") 2> /dev/null
