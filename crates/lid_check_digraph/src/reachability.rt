@@ -115,7 +115,7 @@ pub(crate) fn is_on_loop(
 }
 
 /// The numbers from which a walk, perhaps without an edge, leads to `end`: entry a tells it of a. The
-/// reads of a number that is cut are not followed. It takes time in the numbers and reads.
+/// reads of a number that is cut are not followed. It takes time in the numbers and reads, which is not proved.
 ///
 /// # Errors
 /// Where there is no memory.
@@ -171,7 +171,7 @@ fn reach_all(
 }
 
 /// The numbers to which a walk, perhaps without an edge, leads from one of the starts: entry k tells it
-/// of k. The reads of a number that is cut are not followed. It goes over the order once.
+/// of k. The reads of a number that is cut are not followed. It goes over the order once, which is not proved.
 ///
 /// # Errors
 /// Where there is no memory.

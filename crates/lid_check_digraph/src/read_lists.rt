@@ -105,7 +105,7 @@ impl ReadLists {
     /// Appends a list.
     ///
     /// # Errors
-    /// Where there is no memory; a first part of it may then be appended.
+    /// Where there is no memory; which lists are held then is not told.
     pub fn push(&mut self, numbers: &[u32]) -> Result<(), AllocError>
         ensures { OnOk result (self.new ≡ self.old ++ numbers.now ∷ []) }
     {

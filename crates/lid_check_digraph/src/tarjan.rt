@@ -1,4 +1,4 @@
-//! Tarjan's strongly connected components, by which most numbers that lie on no closed walk are told.
+//! Tarjan's strongly connected components, by which the numbers that lie on no closed walk are told.
 
 ghost use Rattle.std.specs.Prelude.{◌≡◌, ◌<◌, ℕ, length, IsTrue, IfOk, OnOk};
 ghost use Rattle.lid_check_digraph.specs.PartialOrders.{AreBelow, MarksLoops, IsUphill};

@@ -31,7 +31,8 @@ struct Taken {
     left: Vec<bool>,
 }
 
-/// Takes the numbers into the order that can be, in rounds, as Kahn's algorithm does.
+/// Takes the numbers into the order that can be, in rounds: as Kahn's algorithm does, but by whole sweeps. After
+/// the numbers of a postorder one sweep finds none.
 fn take_rounds(
     order: &mut Vec<u32>,
     left: &mut [bool],
@@ -123,8 +124,7 @@ fn least_left(
 /// An order of all numbers, in which each stands after all that it reads, or else the least number on a
 /// closed walk.
 ///
-/// It takes time in the numbers and reads, which is
-/// measured and not proved.
+/// It takes time in the numbers and reads, which is measured and not proved.
 ///
 /// # Errors
 /// Where there is no memory.

@@ -10,6 +10,7 @@ mod nodes;
 mod origin;
 mod pearls;
 mod ports;
+mod sharing;
 mod step;
 
 pub use assembly::{build, find_channels};

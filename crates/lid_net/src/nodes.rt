@@ -14,6 +14,7 @@ use crate::leading::origin_of;
 use crate::origin::Origin;
 use crate::pearls::pearl_of;
 use crate::ports::ShellPorts;
+use crate::sharing::{FirstShells, with_layout_at};
 use lid_base::{Items, Name, copy_names};
 use lid_check::Checked;
 use lid_net_channels::{Read, find_bit};
@@ -117,7 +118,7 @@ fn push_sink(
     Ok(())
 }
 
-/// Appends a shell for each pearl.
+/// Appends a shell for each pearl. Those of one model have their layout in common.
 fn push_shells(
     alloc: Global,
     checked: &Checked,
@@ -131,8 +132,11 @@ fn push_shells(
     requires led { CanReadAll wiring.now 1 (map ins_of ports.now) }
     ensures { OnOk result (AreShellsSoFar checked.now wiring.now ports.now nodes.old.items nodes.new.items) }
 {
+    let mut firsts = FirstShells::new(alloc, checked.design())?;
     for i in 0..ports.len() {
+        let first = firsts.enter(i, nodes.len())?;
         let shell = shell_of(alloc, checked, wiring, i as u32, &ports[i])?;
+        let shell = with_layout_at(nodes.as_slice(), first, shell);
         nodes.push(shell)?;
     }
     Ok(())

@@ -12,8 +12,8 @@ use Rattle.lid_design.specs.Flat.{flat_drivers, latch_out, latch_input, ReadEarl
 use Rattle.lid_strict_engine.specs.declared.program.Program.{Program}
 use Rattle.lid_strict_engine.specs.Programs.{program_covers}
 use Rattle.lid_strict_engine.specs.Rows.{AreRightAt, known_after}
-use Rattle.lid_strict_widths.specs.declared.group.ByWidth.{ByWidth}
 use Rattle.lid_strict_widths.specs.Groups.{IsByWidth}
+use Rattle.lid_pearl.specs.declared.pearl.Layout.{Layout}
 
 -- the nets that the latches give
 abbrev pub held : List FlatLatch → List ℕ
@@ -49,14 +49,28 @@ abbrev pub AreSettled : List FlatLatch → Program → List Bool → List Bool �
 AreSettled latches early state bits =
     (f : ℕ → Bool) → IsRow (program_covers early) f → map f (held latches) ≡ state → AreRightAt f (early_nets latches early) bits
 
--- what is known of the fields of a pearl
-pub record ArePearlFields (nets : ℕ) (ins outs : List ℕ) (latches : List FlatLatch) (early late : ByWidth) (state bits : List Bool) : Type 0 where
-  pub early_is : IsByWidth early
-  pub late_is : IsByWidth late
-  pub ordered : IsOrdered nets ins outs latches early.program late.program
-  pub state_size : length state ≡ length latches
-  pub size : length bits ≡ nets
-  pub settled : AreSettled latches early.program state bits
+-- the flat part of a layout: its early covers before the late ones
+abbrev pub laid_flat : Layout → Flat
+laid_flat l = record {
+  nets = l.shape.nets;
+  ins = l.shape.ins.items;
+  outs = l.shape.outs.items;
+  latches = l.shape.latches.all.items;
+  covers = program_covers l.plan.early.program ++ program_covers l.plan.late.program;
+}
+
+-- a layout is in order: the nets of its latches are kept beside them, and each cover reads what is known when it is run
+pub record IsLaidOut (l : Layout) : Type 0 where
+  pub latches : AreLatchNets l.shape.latches.all.items l.shape.latches.held.items l.shape.latches.taken.items
+  pub early_is : IsByWidth l.plan.early
+  pub late_is : IsByWidth l.plan.late
+  pub ordered : IsOrdered l.shape.nets l.shape.ins.items l.shape.outs.items l.shape.latches.all.items l.plan.early.program l.plan.late.program
+
+-- the bits of a pearl: one for each latch, one for each net, and of early nets those of the state
+pub record AreHeld (l : Layout) (state bits : List Bool) : Type 0 where
+  pub state_size : length state ≡ length l.shape.latches.all.items
+  pub size : length bits ≡ l.shape.nets
+  pub settled : AreSettled l.shape.latches.all.items l.plan.early.program state bits
 
 -- an input leads to the net
 abbrev pub IsFromInput : Flat → ℕ → Type 0

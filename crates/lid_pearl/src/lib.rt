@@ -3,6 +3,7 @@
 
 mod laws;
 mod pearl;
+mod same;
 mod split;
 
 pub use laws::{pearls_follow_tables, reordered_parts_have_the_same_tables};

@@ -1,20 +1,23 @@
 //! Pearls.
 
-ghost use Rattle.std.specs.Prelude.{◌≡◌, ◌<◌, ◌+◌, ◌++◌, ℕ, Bool, List, length, map, IfOk};
+ghost use Rattle.std.specs.Prelude.{◌≡◌, ◌<◌, ◌++◌, ℕ, Bool, true, List, length, map, IfOk};
 ghost use Rattle.std.specs.List.{AllByRecursion};
+ghost use Rattle.std.specs.Arc.{arc_value};
 ghost use Rattle.lid_design.specs.declared.FlatLatch.{FlatLatch};
 ghost use Rattle.lid_design.specs.Flat.{latch_init, latch_input, IsFlat, IsRow, ReadEarlier};
 ghost use Rattle.lid_strict_engine.specs.Programs.{program_covers, IsProgram};
 ghost use Rattle.lid_strict_widths.specs.Groups.{IsByWidth};
 ghost use Rattle.lid_pearl.specs.Pearls.{IsSplit};
-ghost use Rattle.lid_pearl.specs.Inside.{held, AreLatchNets, AreSettled, IsOrdered, ArePearlFields};
+ghost use Rattle.lid_pearl.specs.Inside.{held, AreLatchNets, AreSettled, IsOrdered, laid_flat, IsLaidOut, AreHeld};
 
+use crate::same::{are_same_latches, is_same_program};
 use crate::split::{Halves, find_marks, lay_out, run_by_level, take_apart};
 use lid_design::{Flat, FlatLatch};
 use lid_strict_engine::{copy_of, first_state, put_bits, take_bits};
 use lid_strict_widths::{ByWidth, settle_by_width};
 use std::alloc::{AllocError, Global};
 use std::marker::Model;
+use std::sync::Arc;
 
 /// The latches of a pearl, and beside them what a row goes through: the nets that they give, and those that they read.
 #[derive(Drop)]
@@ -40,6 +43,13 @@ struct Plan {
     late: ByWidth,
 }
 
+/// What a pearl has in common with its copies: its nets and its covers.
+#[derive(Drop)]
+struct Layout {
+    shape: Shape,
+    plan: Plan,
+}
+
 /// The bits that the latches hold, and those of the nets: of early nets those of the present state.
 #[derive(Drop)]
 struct Row {
@@ -47,36 +57,23 @@ struct Row {
     bits: Vec<bool>,
 }
 
-/// A flat part and its state. A contract sees these two alone.
+/// A flat part and its state. A contract sees these two alone. Copies have the layout in common.
 #[derive(Drop)]
 pub struct Pearl {
-    shape: Shape,
-    plan: Plan,
+    layout: Arc<Layout>,
     row: Row,
 }
 
 impl Model for Pearl {
-    ghost use Rattle.std.specs.Prelude.{◌++◌};
-    ghost use Rattle.lid_strict_engine.specs.Programs.{program_covers};
+    ghost use Rattle.std.specs.Arc.{arc_value};
     ghost use Rattle.lid_pearl.specs.Pearls.{View};
-    ghost use Rattle.lid_pearl.specs.Inside.{AreLatchNets, ArePearlFields};
+    ghost use Rattle.lid_pearl.specs.Inside.{laid_flat, IsLaidOut, AreHeld};
 
     ghost Value = { View };
 
-    ghost view = { λ p. record {
-      flat = record {
-        nets = p.shape.nets;
-        ins = p.shape.ins.items;
-        outs = p.shape.outs.items;
-        latches = p.shape.latches.all.items;
-        covers = program_covers p.plan.early.program ++ program_covers p.plan.late.program;
-      };
-      state = p.row.state.items;
-    } };
+    ghost view = { λ p. record { flat = laid_flat (arc_value p.layout); state = p.row.state.items } };
 
-    ghost invariant = { λ p. AreLatchNets p.shape.latches.all.items p.shape.latches.held.items p.shape.latches.taken.items
-        × ArePearlFields p.shape.nets p.shape.ins.items p.shape.outs.items p.shape.latches.all.items p.plan.early p.plan.late
-        p.row.state.items p.row.bits.items };
+    ghost invariant = { λ p. IsLaidOut (arc_value p.layout) × AreHeld (arc_value p.layout) p.row.state.items p.row.bits.items };
 }
 
 impl Pearl {
@@ -98,8 +95,7 @@ impl Pearl {
             flat.latches.as_slice(),
         )?;
         let plan = plan_of(alloc, flat)?;
-        let row = first_row(alloc, &shape, &plan.early)?;
-        Ok(Pearl { shape, plan, row })
+        begin(alloc, Layout { shape, plan })
     }
 
     /// A pearl in its initial state, as `make` gives it, of a flat part that is taken apart: what a cover
@@ -118,31 +114,39 @@ impl Pearl {
             flat.latches.as_slice(),
         )?;
         let plan = plan_apart(alloc, flat)?;
-        let row = first_row(alloc, &shape, &plan.early)?;
-        Ok(Pearl { shape, plan, row })
+        begin(alloc, Layout { shape, plan })
     }
 
-    /// An equal pearl.
+    /// An equal pearl, with the same layout: its own bits alone take memory.
     pub fn copy(&self) -> Result<Pearl, AllocError>
         ensures { IfOk result (λ copy. copy ≡ self.now) }
     {
-        let shape = shape_of(
-            *self.shape.ins.allocator(),
-            self.shape.nets,
-            self.shape.ins.as_slice(),
-            self.shape.outs.as_slice(),
-            self.shape.latches.all.as_slice(),
-        )?;
-        let plan = copy_plan(&self.plan)?;
+        let layout = Arc::try_clone(&self.layout)?;
         let row = copy_row(&self.row)?;
-        Ok(Pearl { shape, plan, row })
+        Ok(Pearl { layout, row })
+    }
+
+    /// The same pearl, with the layout of another one in place of its own where the two are equal.
+    pub fn with_layout_of(self, other: &Pearl) -> Pearl
+        ensures { result ≡ self }
+    {
+        if !is_same_layout(&self.layout, &other.layout) {
+            return self;
+        }
+        match Arc::try_clone(&other.layout) {
+            Ok(layout) => {
+                let Pearl { row, .. } = self;
+                Pearl { layout, row }
+            }
+            Err(_) => self,
+        }
     }
 
     /// The number of outputs.
     pub fn outs(&self) -> usize
         ensures { result ≡ length self.now.flat.outs }
     {
-        self.shape.outs.len()
+        self.layout.shape.outs.len()
     }
 
     /// Writes the outputs of the present state.
@@ -150,7 +154,8 @@ impl Pearl {
         requires { length into.old ≡ length self.now.flat.outs }
         ensures { Shows self.now into.new }
     {
-        take_bits(self.row.bits.as_slice(), self.shape.outs.as_slice(), into);
+        let bits = self.row.bits.as_slice();
+        take_bits(bits, self.layout.shape.outs.as_slice(), into);
     }
 
     /// Moves the state by one row, and writes the new outputs.
@@ -160,14 +165,24 @@ impl Pearl {
         ensures { Steps self.old inputs.now self.new into.new }
     {
         run(
-            &self.shape,
-            &self.plan,
+            &self.layout,
             self.row.state.as_mut_slice(),
             self.row.bits.as_mut_slice(),
             inputs,
             into,
         );
     }
+}
+
+/// A pearl of a layout, in its initial state.
+fn begin(alloc: Global, layout: Layout) -> Result<Pearl, AllocError>
+    requires { IsLaidOut layout }
+    ensures flat { IfOk result (λ pearl. pearl.flat ≡ laid_flat layout) }
+    ensures state { IfOk result (λ pearl. pearl.state ≡ map latch_init layout.shape.latches.all.items) }
+{
+    let row = first_row(alloc, &layout.shape, &layout.plan.early)?;
+    let layout = Arc::new(alloc, layout)?;
+    Ok(Pearl { layout, row })
 }
 
 /// Gives early nets the bits of a state, by the nets that latches give.
@@ -185,27 +200,19 @@ fn settle_state(outs: &[u32], early: &ByWidth, state: &[bool], bits: &mut [bool]
 }
 
 /// Goes on by a row: runs the late covers, takes the new state, settles it, and writes the outputs.
-fn run(
-    shape: &Shape,
-    plan: &Plan,
-    state: &mut [bool],
-    bits: &mut [bool],
-    inputs: &[bool],
-    into: &mut [bool],
-)
-    requires latches { AreLatchNets shape.now.latches.all.items shape.now.latches.held.items shape.now.latches.taken.items }
-    requires kept { ArePearlFields shape.now.nets shape.now.ins.items shape.now.outs.items shape.now.latches.all.items plan.now.early plan.now.late
-        state.old bits.old }
-    requires inputs { length inputs.now ≡ length shape.now.ins.items }
-    requires outs { length into.old ≡ length shape.now.outs.items }
-    ensures kept { ArePearlFields shape.now.nets shape.now.ins.items shape.now.outs.items shape.now.latches.all.items plan.now.early plan.now.late
-        state.new bits.new }
-    ensures state { (f : ℕ → Bool) → IsRow (program_covers plan.now.early.program) f → IsRow (program_covers plan.now.late.program) f
-        → map f (held shape.now.latches.all.items) ≡ state.old → map f shape.now.ins.items ≡ inputs.now
-        → state.new ≡ map f (map latch_input shape.now.latches.all.items) }
-    ensures outs { (f : ℕ → Bool) → IsRow (program_covers plan.now.early.program) f → map f (held shape.now.latches.all.items) ≡ state.new
-        → into.new ≡ map f shape.now.outs.items }
+fn run(layout: &Layout, state: &mut [bool], bits: &mut [bool], inputs: &[bool], into: &mut [bool])
+    requires laid { IsLaidOut layout.now }
+    requires held { AreHeld layout.now state.old bits.old }
+    requires inputs { length inputs.now ≡ length layout.now.shape.ins.items }
+    requires outs { length into.old ≡ length layout.now.shape.outs.items }
+    ensures held { AreHeld layout.now state.new bits.new }
+    ensures state { (f : ℕ → Bool) → IsRow (program_covers layout.now.plan.early.program) f → IsRow (program_covers layout.now.plan.late.program) f
+        → map f (held layout.now.shape.latches.all.items) ≡ state.old → map f layout.now.shape.ins.items ≡ inputs.now
+        → state.new ≡ map f (map latch_input layout.now.shape.latches.all.items) }
+    ensures outs { (f : ℕ → Bool) → IsRow (program_covers layout.now.plan.early.program) f
+        → map f (held layout.now.shape.latches.all.items) ≡ state.new → into.new ≡ map f layout.now.shape.outs.items }
 {
+    let Layout { shape, plan } = layout;
     put_bits(bits, shape.ins.as_slice(), inputs);
     settle_by_width(&plan.late, bits);
     take_bits(bits, shape.latches.taken.as_slice(), state);
@@ -331,19 +338,6 @@ fn first_row(alloc: Global, shape: &Shape, early: &ByWidth) -> Result<Row, Alloc
     Ok(Row { state, bits })
 }
 
-/// Equal covers.
-fn copy_plan(plan: &Plan) -> Result<Plan, AllocError>
-    requires { IsByWidth plan.now.early × IsByWidth plan.now.late }
-    ensures is { IfOk result (λ copy. IsByWidth copy.early × IsByWidth copy.late) }
-    ensures nets { IfOk result (λ copy. (copy.early.program.nets ≡ plan.now.early.program.nets) × (copy.late.program.nets ≡ plan.now.late.program.nets)) }
-    ensures early { IfOk result (λ copy. program_covers copy.early.program ≡ program_covers plan.now.early.program) }
-    ensures late { IfOk result (λ copy. program_covers copy.late.program ≡ program_covers plan.now.late.program) }
-{
-    let early = plan.early.copy()?;
-    let late = plan.late.copy()?;
-    Ok(Plan { early, late })
-}
-
 /// Equal bits.
 fn copy_row(row: &Row) -> Result<Row, AllocError>
     ensures state { IfOk result (λ copy. copy.state.items ≡ row.now.state.items) }
@@ -353,4 +347,33 @@ fn copy_row(row: &Row) -> Result<Row, AllocError>
     let state = copy_of(alloc, row.state.as_slice())?;
     let bits = copy_of(alloc, row.bits.as_slice())?;
     Ok(Row { state, bits })
+}
+
+/// Whether two layouts are the same, which is asked of their fields.
+fn is_same_layout(layout: &Layout, other: &Layout) -> bool
+    requires one { IsLaidOut layout.now }
+    requires two { IsLaidOut other.now }
+    ensures { result ≡ true → (laid_flat layout.now ≡ laid_flat other.now)
+        × ((state bits : List Bool) → AreHeld layout.now state bits → AreHeld other.now state bits) }
+{
+    if !is_same_shape(&layout.shape, &other.shape) {
+        return false;
+    }
+    if !is_same_program(&layout.plan.early.program, &other.plan.early.program) {
+        return false;
+    }
+    is_same_program(&layout.plan.late.program, &other.plan.late.program)
+}
+
+/// Whether two pearls have as many nets, and the same of them as inputs, outputs and latches.
+fn is_same_shape(shape: &Shape, other: &Shape) -> bool
+    ensures nets { result ≡ true → shape.now.nets ≡ other.now.nets }
+    ensures ins { result ≡ true → shape.now.ins.items ≡ other.now.ins.items }
+    ensures outs { result ≡ true → shape.now.outs.items ≡ other.now.outs.items }
+    ensures latches { result ≡ true → shape.now.latches.all.items ≡ other.now.latches.all.items }
+{
+    shape.nets == other.nets
+        && shape.ins.as_slice() == other.ins.as_slice()
+        && shape.outs.as_slice() == other.outs.as_slice()
+        && are_same_latches(shape.latches.all.as_slice(), other.latches.all.as_slice())
 }

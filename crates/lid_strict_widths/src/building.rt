@@ -12,7 +12,7 @@ ghost use Rattle.lid_strict_widths.specs.Groups.{IsGroup, Tile, AreTables, IsByW
 use crate::group::{ByWidth, Group, Tables};
 use crate::ordering::collect_steps;
 use lid_cover::Cube;
-use lid_strict_engine::{Program, ProgramStep, copy_of};
+use lid_strict_engine::{Program, ProgramStep};
 use lid_strict_tables::{is_tabled, push_table};
 use std::alloc::{AllocError, Global};
 
@@ -124,19 +124,4 @@ pub fn by_width(program: Program, order: Vec<usize>) -> Result<ByWidth, AllocErr
         reads,
         groups,
     })
-}
-
-impl ByWidth {
-    /// An equal program that is run in the same order.
-    pub fn copy(&self) -> Result<ByWidth, AllocError>
-        requires { IsByWidth self.now }
-        ensures is { IfOk result IsByWidth }
-        ensures nets { IfOk result (λ copy. copy.program.nets ≡ self.now.program.nets) }
-        ensures shown { IfOk result (λ copy. program_covers copy.program ≡ program_covers self.now.program) }
-        ensures order { IfOk result (λ copy. copy.order.items ≡ self.now.order.items) }
-    {
-        let program = self.program.copy()?;
-        let order = copy_of(*self.order.allocator(), self.order.as_slice())?;
-        by_width(program, order)
-    }
 }

@@ -133,6 +133,49 @@ fn orders_a_chain_of_a_million(rt: HostRuntime) {
     assert!(rt; orders_a_million(rt.alloc()));
 }
 
+/// So many numbers, of which the first reads all others.
+fn fan_of(alloc: Global, count: u32) -> Result<ReadLists, AllocError> {
+    let mut reads = ReadLists::with_capacity(alloc, count as usize)?;
+    reads.begin()?;
+    for number in 1..count {
+        reads.add(number)?;
+    }
+    for _ in 1..count {
+        reads.begin()?;
+    }
+    Ok(reads)
+}
+
+/// Whether an order of so many numbers ends with the first.
+fn ends_with_first(found: Found, count: usize) -> bool {
+    match found {
+        Found::Order(order) => {
+            let order = order.into_vec();
+            order.len() == count && order.as_slice().last().copied() == Some(0)
+        }
+        Found::Loop(_) => false,
+    }
+}
+
+/// Whether the order of a million numbers, of which the first reads all others, ends with the first.
+fn orders_a_fan(alloc: Global) -> bool {
+    let Ok(reads) = fan_of(alloc, 1_000_000) else {
+        return false;
+    };
+    if !is_graph(&reads) {
+        return false;
+    }
+    match find_order(alloc, &Digraph { reads: &reads }) {
+        Ok(found) => ends_with_first(found, 1_000_000),
+        Err(_) => false,
+    }
+}
+
+#[test]
+fn orders_what_one_number_reads_once(rt: HostRuntime) {
+    assert!(rt; orders_a_fan(rt.alloc()));
+}
+
 /// Whether bit 3 * c + b is set: whether c reads b, of three numbers.
 fn has(bits: u32, c: u32, b: u32) -> bool {
     c < 3 && b < 3 && (bits >> (3 * c + b)) & 1 == 1
