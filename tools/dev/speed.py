@@ -410,7 +410,7 @@ def main():
     parser.add_argument("WORD", nargs="?", default="")
     parser.add_argument("--program", type=absolute)
     parser.add_argument("--before", type=absolute)
-    given = parser.parse_args()
+    given = parser.parse_intermixed_args()
     programs = [given.program or program(), *([given.before] if given.before else [])]
     if given.WHAT == "each":
         families = [EACH]
