@@ -50,11 +50,3 @@ walks_end g order is n a c h w =
     let back = walk_back g order is.earlier n a at.0 at.1 (subst (λ (x : ℕ). EdgesLead g n a x) (sym at.2) w) in
     let long = is.long in
     omega arith
-
--- and no walk has as many edges as there are numbers, where there is a number
-pub no_walk : (g : List (List ℕ)) (order : List ℕ) → IsOrder g order → 0 < length g → (a c : ℕ) → EdgesLead g (length g) a c → ⊥
-no_walk g order is some a c w = by_length (length g) refl w
-  where
-    by_length : (n : ℕ) → n ≡ length g → EdgesLead g n a c → ⊥
-    by_length zero e w = absurd (omega arith)
-    by_length (suc n) e w = let less = walks_end g order is (suc n) a c (reader_within g c w.0 w.2) w in absurd (omega arith)

@@ -118,7 +118,7 @@ fn push_sink(
     Ok(())
 }
 
-/// Appends a shell for each pearl. Those of one model have their layout in common.
+/// Appends a shell for each pearl. Those of one model have their layout in common, which no clause says.
 fn push_shells(
     alloc: Global,
     checked: &Checked,

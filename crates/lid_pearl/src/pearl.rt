@@ -43,7 +43,7 @@ struct Plan {
     late: ByWidth,
 }
 
-/// What a pearl has in common with its copies: its nets and its covers.
+/// What pearls can have in common: their nets, and their covers as they are run.
 #[derive(Drop)]
 struct Layout {
     shape: Shape,
@@ -57,7 +57,8 @@ struct Row {
     bits: Vec<bool>,
 }
 
-/// A flat part and its state. A contract sees these two alone. Copies have the layout in common.
+/// A flat part and its state. A contract sees these two alone. A copy has its layout in common with the pearl, which no
+/// clause says, since only memory hangs on it.
 #[derive(Drop)]
 pub struct Pearl {
     layout: Arc<Layout>,
@@ -118,6 +119,9 @@ impl Pearl {
     }
 
     /// An equal pearl, with the same layout: its own bits alone take memory.
+    ///
+    /// # Errors
+    /// Memory is wanting, or the layout cannot have an owner more.
     pub fn copy(&self) -> Result<Pearl, AllocError>
         ensures { IfOk result (λ copy. copy ≡ self.now) }
     {
@@ -351,8 +355,6 @@ fn copy_row(row: &Row) -> Result<Row, AllocError>
 
 /// Whether two layouts are the same, which is asked of their fields.
 fn is_same_layout(layout: &Layout, other: &Layout) -> bool
-    requires one { IsLaidOut layout.now }
-    requires two { IsLaidOut other.now }
     ensures { result ≡ true → (laid_flat layout.now ≡ laid_flat other.now)
         × ((state bits : List Bool) → AreHeld layout.now state bits → AreHeld other.now state bits) }
 {

@@ -1,4 +1,5 @@
-//! Whether two layouts have the same latches and covers.
+//! Whether two layouts have the same latches and covers. Where the answer is true they have, which is proved. That it
+//! is true wherever they have is no clause, since only memory hangs on it.
 
 ghost use Rattle.std.specs.Prelude.{◌≡◌, true};
 
