@@ -30,8 +30,9 @@ installed=${here%/*}/libexec/lid/lid
 # The mark of a check: `names` has what was looked at, each a name from crates/ and a NUL after it, and `stamps` the
 # second in which the kernel last changed each in any way (its ctime, which neither `cp -p`, `touch` nor `rsync -t` sets
 # back, as they do the time that `[ a -nt b ]` compares). It says: a check of all checksums of release/SUMS found all
-# right, and since then no file of a src/ or specs/, nor crates.txt or the program, was changed, replaced, added or taken
-# away. (What changes in a proofs/ is seen by the next check: it changes no source and no program.)
+# right, and since then no file of a src/ or specs/ was changed, replaced, taken away or added, nor crates.txt, the
+# program or its checksums, nor a name in crates/ or release/. (What changes in a proofs/ is seen by the next check: it
+# changes no source and no program.)
 # Where a second or a name differs, or there is no mark of this user's, all is checked again; where that finds all right,
 # the mark is made anew, from times that were noted before it began and are two seconds and more older.
 case ${XDG_CACHE_HOME-} in
